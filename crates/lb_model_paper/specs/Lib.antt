@@ -1,0 +1,3 @@
+pub mod Dvi
+pub mod Rows
+pub mod Texts

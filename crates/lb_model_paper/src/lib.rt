@@ -1,0 +1,4 @@
+//! What lies on paper: the bytes of DVI files, and the texts of aux and log files.
+#![tactic(auto)]
+
+pub mod rows;
