@@ -1,5 +1,5 @@
 //! Names of files, fonts and control sequences.
-ghost use Rattle.std.specs.Prelude.{◌≡◌, Some, refl, length, IfOk, nat_eq};
+ghost use Rattle.std.specs.Prelude.{◌≡◌, ◌++◌, Some, refl, length, IfOk, nat_eq};
 ghost use Rattle.std.proofs.Common.{rules};
 ghost use Rattle.std.specs.Ordering.{nat_cmp};
 ghost use Rattle.std.specs.Hash as fed;
@@ -36,6 +36,15 @@ impl Name {
     {
         let bytes = ArcSlice::from_slice(alloc, bytes)?;
         Ok(Name { bytes })
+    }
+
+    /// This name and an ending behind it, as a chapter's name and `.tex`.
+    pub fn with_ending(&self, alloc: Global, ending: &[u8]) -> Result<Name, AllocError>
+        ensures { IfOk result (λ name. name ≡ self.now ++ ending.now) }
+    {
+        let mut bytes = Vec::from_slice(alloc, self.as_slice())?;
+        bytes.extend_from_slice(ending)?;
+        Name::from_slice(alloc, bytes.as_slice())
     }
 
     pub fn as_slice(&self) -> &[u8]

@@ -1,0 +1,11 @@
+pub mod FirstLine
+pub mod LineEnds
+pub mod Blanks
+pub mod Spaced
+pub mod ChapterLemmas
+pub mod Names
+pub mod Parted
+pub mod Rows
+pub mod Placed
+pub mod Drawn
+pub mod Found
