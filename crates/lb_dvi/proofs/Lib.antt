@@ -1,0 +1,5 @@
+pub mod Bounds
+pub mod Fonts
+pub mod Lengths
+pub mod Marks
+pub mod Progresses
