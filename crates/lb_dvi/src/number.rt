@@ -3,6 +3,7 @@ ghost use Rattle.std.specs.Prelude.{◌≡◌, ◌++◌, ◌<◌, OnOk};
 ghost use Rattle.lb_model_paper.specs.Dvi.{move, signed, unit, word, half};
 ghost use Rattle.lb_model_paper.specs.Dvi as dvi;
 
+use byteorder::{BigEndian, ByteOrder};
 use std::alloc::AllocError;
 
 /// The unit of length is `NUMERATOR / DENOMINATOR` of 1/10 micrometre, which is a scaled point.
@@ -16,19 +17,23 @@ const MAGNIFICATION: u32 = 1000;
 pub fn push_half(out: &mut Vec<u8>, number: u16) -> Result<(), AllocError>
     ensures { OnOk result (out.new.items ≡ out.old.items ++ half number) }
 {
-    out.extend_from_slice(&number.to_be_bytes())
+    let mut bytes = [0; 2];
+    BigEndian::write_u16(&mut bytes, number);
+    out.extend_from_slice(&bytes)
 }
 
 pub fn push_word(out: &mut Vec<u8>, number: u32) -> Result<(), AllocError>
     ensures { OnOk result (out.new.items ≡ out.old.items ++ word number) }
 {
-    out.extend_from_slice(&number.to_be_bytes())
+    let mut bytes = [0; 4];
+    BigEndian::write_u32(&mut bytes, number);
+    out.extend_from_slice(&bytes)
 }
 
 pub fn push_signed(out: &mut Vec<u8>, number: i32) -> Result<(), AllocError>
     ensures { OnOk result (out.new.items ≡ out.old.items ++ signed number) }
 {
-    out.extend_from_slice(&number.to_be_bytes())
+    push_word(out, number.cast_unsigned())
 }
 
 /// The unit of length and the magnification.
@@ -51,7 +56,9 @@ pub fn push_move(out: &mut Vec<u8>, first: u8, distance: i32) -> Result<(), Allo
     }
     let size = fewest_bytes(distance);
     out.push(first + (size as u8 - 1))?;
-    out.extend_from_slice(&distance.to_be_bytes()[4 - size..])
+    let mut bytes = [0; 4];
+    BigEndian::write_u32(&mut bytes, distance.cast_unsigned());
+    out.extend_from_slice(&bytes[4 - size..])
 }
 
 /// The fewest bytes that hold a number with its sign.

@@ -45,3 +45,11 @@ returns-in_ok-push_rule-in-Rule-clause-known c =
     let e = ap (λ (p : Pen). p.font) c.in_ok-push_rule-in-Rule.ensures.pen in
     let same : c.push_rule.new.self.font ≡ c.args.self.now.font = e ∙ font-either _ _ _ refl in
     rw same c.requires.known
+
+pub returns-in_ok-push_rule-in-Rule-clause-pen : goal.returns-in_ok-push_rule-in-Rule-clause-pen
+returns-in_ok-push_rule-in-Rule-clause-pen c =
+    let s = rw c.in-Rule.is at c.requires.small in
+    let f : SFits w32 c.in-Rule.height = search rules in
+    let g : SFits w32 c.in-Rule.width = search rules in
+    let pen = rw (small-read c.in-Rule.h s.left, small-read c.in-Rule.v s.lower, to_z-of_z w32 c.in-Rule.height f, to_z-of_z w32 c.in-Rule.width g) at c.in_ok-push_rule-in-Rule.ensures.pen in
+    rw c.in-Rule.is pen

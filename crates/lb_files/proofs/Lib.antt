@@ -1,0 +1,3 @@
+pub mod Cut
+pub mod Loaded
+pub mod Texts

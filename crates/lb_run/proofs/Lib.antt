@@ -1,0 +1,4 @@
+pub mod Bounds
+pub mod Chapters
+pub mod Journals
+pub mod PlainNames
