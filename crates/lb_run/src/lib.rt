@@ -1,14 +1,14 @@
 //! Runs of the typesetter, from the words of a command to the bytes of its files.
 #![tactic(auto)]
 
-pub mod book;
-pub mod chapter;
-pub mod names;
+mod book;
+mod chapter;
+mod names;
 mod setting;
 pub mod status;
-pub mod texts;
-pub mod words;
-pub mod writes;
+mod texts;
+mod words;
+mod writes;
 
 pub use lb_files::{Failed, Folder, FolderStop, Outlet, Said, Size};
 pub use setting::run;
