@@ -1,1 +1,3 @@
+pub mod Badness
+pub mod Decimals
 pub mod Kinds

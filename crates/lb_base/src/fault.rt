@@ -1,10 +1,12 @@
 //! Faults of an input, by kind and place.
 ghost use Rattle.std.specs.Prelude.{◌≡◌};
+ghost use Rattle.lb_base.specs.declared.fault.Stop.TheVariants.{Memory};
 
 use crate::name::Name;
+use std::alloc::AllocError;
 
 /// What is wrong with an input. `NotYet` is an input form that is not built yet.
-#[derive(Clone, Copy, Debug, PartialEq, Eq)]
+#[derive(Clone, Copy, PartialEq, Eq)]
 pub enum Kind {
     NotYet,
     NoClass,
@@ -105,9 +107,26 @@ impl Kind {
 }
 
 /// The first fault of an input. The line counts from 1, and is 0 where the fault is of a whole file.
-#[derive(Clone, Debug, Drop, PartialEq, Eq)]
+#[derive(Clone, Drop, PartialEq, Eq)]
 pub struct Fault {
     pub kind: Kind,
     pub file: Name,
     pub line: u64,
+}
+
+/// Why a call stops: for want of memory, for a fault whose place its caller knows, or for a fault
+/// with a place of its own.
+#[derive(Drop)]
+pub enum Stop {
+    Memory,
+    Fault(Kind),
+    At(Fault),
+}
+
+impl From<AllocError> for Stop {
+    ghost from_gives = { λ _ stop. stop ≡ Memory };
+
+    fn from(_error: AllocError) -> Stop {
+        Stop::Memory
+    }
 }

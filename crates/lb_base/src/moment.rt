@@ -2,7 +2,7 @@
 
 /// A date and a time of day. The year is at most 9999, the month 1 to 12 and the day 1 to 31, and
 /// the minutes since midnight are below 1440.
-#[derive(Clone, Copy, Debug, PartialEq, Eq)]
+#[derive(Clone, Copy, PartialEq, Eq)]
 pub struct Moment {
     pub year: u16,
     pub month: u8,

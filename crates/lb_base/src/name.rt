@@ -16,7 +16,7 @@ use std::sync::ArcSlice;
 
 /// A name, which contracts see as the list of its bytes. A clone shares the bytes and copies none,
 /// so that a token or a font's name costs eight bytes wherever it stands.
-#[derive(Debug, Drop)]
+#[derive(Drop)]
 pub struct Name {
     bytes: ArcSlice<u8>,
 }

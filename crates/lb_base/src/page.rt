@@ -3,7 +3,7 @@ use crate::listed::Listed;
 use crate::name::Name;
 
 /// A font at a size. `check` and `design` are its file's checksum and design size.
-#[derive(Clone, Debug, Drop, PartialEq, Eq)]
+#[derive(Clone, Drop, PartialEq, Eq)]
 pub struct FontId {
     pub name: Name,
     pub size: i32,
@@ -12,7 +12,7 @@ pub struct FontId {
 }
 
 /// A character by the left end of its baseline, or a rule by its lower left corner.
-#[derive(Clone, Debug, Drop, PartialEq, Eq)]
+#[derive(Clone, Drop, PartialEq, Eq)]
 pub enum Mark {
     Char {
         h: i32,
@@ -32,7 +32,7 @@ pub enum Mark {
 pub type MarkList = Listed<Mark>;
 
 /// A page: its number, its marks in order, and its size.
-#[derive(Clone, Debug, Drop, PartialEq, Eq)]
+#[derive(Clone, Drop, PartialEq, Eq)]
 pub struct PageCode {
     pub number: i32,
     pub marks: MarkList,

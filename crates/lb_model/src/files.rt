@@ -10,7 +10,7 @@ use std::alloc::{AllocError, Global};
 use std::marker::Model;
 
 /// Files by name, in the order of the names. Contracts see a finite map from names to bytes.
-#[derive(Debug, Drop)]
+#[derive(Drop)]
 pub struct FileMap {
     files: Vec<(Name, Bytes)>,
 }

@@ -7,7 +7,7 @@ pub const STEPS_AT_START: u64 = 50_000_000;
 
 /// Everything that a run can depend on. `main` is the name of the main file without its ending, and
 /// `prefix` stands before the names of font files.
-#[derive(Debug, Drop)]
+#[derive(Drop)]
 pub struct World {
     pub files: FileMap,
     pub main: Name,

@@ -2,7 +2,7 @@
 use lb_base::Fault;
 
 /// A book ends well, or at its first fault.
-#[derive(Clone, Debug, Drop, PartialEq, Eq)]
+#[derive(Clone, Drop, PartialEq, Eq)]
 pub enum End {
     Done,
     Fault(Fault),

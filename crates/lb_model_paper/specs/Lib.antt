@@ -1,3 +1,9 @@
+pub mod Boxes
 pub mod Dvi
+pub mod FontFiles
+pub mod FontRules
+pub mod Fonts
+pub mod Nodes
 pub mod Rows
 pub mod Texts
+pub mod Words

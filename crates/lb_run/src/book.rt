@@ -21,7 +21,7 @@ use lb_model::World;
 use std::alloc::Global;
 
 /// Why a book was not written to its end.
-#[derive(Clone, Copy, Debug, PartialEq, Eq)]
+#[derive(Clone, Copy, PartialEq, Eq)]
 pub enum BookStop {
     Memory,
     Failed,

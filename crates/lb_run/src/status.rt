@@ -7,7 +7,7 @@ use lb_files::Size;
 use std::alloc::Global;
 
 /// How a run ends. Statuses from `ReadFault` on say nothing of the input.
-#[derive(Clone, Debug, Drop, PartialEq, Eq)]
+#[derive(Clone, Drop, PartialEq, Eq)]
 pub enum Status {
     /// All was set and written.
     Done,

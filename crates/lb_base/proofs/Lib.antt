@@ -1,0 +1,5 @@
+pub mod BadnessOrder
+pub mod DecimalReading
+pub mod FractionWriting
+pub mod ReadingBack
+pub mod TextBack

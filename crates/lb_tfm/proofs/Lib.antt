@@ -1,0 +1,10 @@
+pub mod BrokenRules
+pub mod Drawn
+pub mod Floors
+pub mod Lengths
+pub mod Numbers
+pub mod Programs
+pub mod Searches
+pub mod SoundFiles
+pub mod Tests
+pub mod WholeFiles

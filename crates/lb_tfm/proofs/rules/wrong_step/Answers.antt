@@ -1,0 +1,11 @@
+use Rattle.std.proofs.Common.{sym, ◌∙◌, refl}
+use Rattle.lb_model_paper.specs.FontRules.{is_wrong_step, wrong_step}
+use Rattle.lb_tfm.proofs.Searches.{find-later}
+use Rattle.lb_tfm.proofs.rules.wrong_step.Goals as goal
+
+pub loop-word-init : goal.loop-word-init
+unfolding wrong_step
+loop-word-init c = rw (c.first_step-word.ensures, c.first_kern-word-end.ensures) refl
+
+pub loop-word-preserved : goal.loop-word-preserved
+loop-word-preserved c = find-later (is_wrong_step c.args.bytes.now c.args.counts) c.loop-word.word _ _ c.loop-word-test.true (sym c.is_wrong_step.ensures ∙ c.if-is_wrong_step.false) c.loop-word.invariant
