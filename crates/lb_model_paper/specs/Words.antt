@@ -1,6 +1,6 @@
 -- Words: how a font's ligature and kerning programs rewrite a list of characters from the left, and the spaces between words
 -- (The TeXbook, chapters 4 and 12 and appendix F; tex.web, sections 1029 to 1044). Lengths are in scaled points.
-use Rattle.std.specs.Prelude.{ℕ, zero, suc, ◌==◌, Bool, true, false, List, [], ◌∷◌, ◌++◌, map, if◌then◌else◌, Option, None, Some, ℤ, pos, ◌+ℤ◌, ◌*ℤ◌, int_le, int_div}
+use Rattle.std.specs.Prelude.{ℕ, zero, suc, ◌-◌, length, slice_index, ◌==◌, Bool, true, false, List, [], ◌∷◌, ◌++◌, map, if◌then◌else◌, Option, None, Some, ℤ, pos, ◌+ℤ◌, ◌*ℤ◌, int_le, int_div}
 use Rattle.lb_base.specs.declared.font.LigStep.{LigStep}
 use Rattle.lb_base.specs.declared.font.LigStep.TheVariants.{Nothing, Kern, Lig}
 use Rattle.lb_base.specs.declared.font.Metrics.{Metrics}
@@ -24,10 +24,9 @@ abbrev pub known : Option Metrics → Metrics
 known (Some metrics) = metrics
 known None = record { width = pos 0; height = pos 0; depth = pos 0; italic = pos 0 }
 
+-- whether the last of some characters is a hyphen; where there is none it is not
 abbrev pub is_hyphen_last : List ℕ → Bool
-is_hyphen_last [] = false
-is_hyphen_last (code ∷ []) = code == 45
-is_hyphen_last (code ∷ next ∷ codes) = is_hyphen_last (next ∷ codes)
+is_hyphen_last codes = slice_index codes (length codes - 1) == 45
 
 -- behind a hyphen, or a ligature that ends in one, a line can be broken: there stands an empty discretionary
 abbrev pub empty_discretionary : Node
@@ -109,37 +108,40 @@ found_at Nothing here further = further
 found_at (Kern width) here further = here
 found_at (Lig code keep_left keep_right pass) here further = here
 
-abbrev pub sought : FontData → List Node → WordPart → List WordPart → Found
+unfoldable pub sought : FontData → List Node → WordPart → List WordPart → Found
 sought font made left [] = End (made ++ nodes_of font left)
 sought font made left (next ∷ right) =
     found_at (step_of font (side_of left) (side_of next))
     (At (stepped font (step_of font (side_of left) (side_of next)) (record { made = made; left = left; right = next ∷ right }) next right))
     (sought font (made ++ nodes_of font left) next right)
 
--- The nodes of a word from a cursor on, and the number of steps left of those that may be taken; none where it needs more.
+-- The nodes made from a cursor on, with those made before, and the number of steps left of those that may be taken; none where
+-- the word needs more.
 unfoldable pub set_from : FontData → ℕ → Cursor → Option (List Node × ℕ)
 set_from font zero cursor = elim (sought font cursor.made cursor.left cursor.right) [ End nodes ↦ Some (nodes, 0) | At next ↦ None ]
 set_from font (suc steps) cursor = elim (sought font cursor.made cursor.left cursor.right) [ End nodes ↦ Some (nodes, suc steps) | At next ↦ set_from font steps next ]
 
 -- A word begins and ends with an edge. Where it has no character it is nothing.
-abbrev pub word_start : List ℕ → Cursor
-word_start codes = record { made = []; left = WordEdge; right = map Letter codes ++ WordEdge ∷ [] }
+abbrev pub word_start : List Node → List ℕ → Cursor
+word_start nodes codes = record { made = nodes; left = WordEdge; right = map Letter codes ++ WordEdge ∷ [] }
 
-abbrev pub set_word : FontData → ℕ → List ℕ → Option (List Node × ℕ)
-set_word font steps [] = Some ([], steps)
-set_word font steps (code ∷ codes) = set_from font steps (word_start (code ∷ codes))
+-- a list with the nodes of a word behind it, and the number of steps left
+unfoldable pub set_word : FontData → ℕ → List Node → List ℕ → Option (List Node × ℕ)
+set_word font steps nodes [] = Some (nodes, steps)
+set_word font steps nodes (code ∷ codes) = set_from font steps (word_start nodes (code ∷ codes))
 
 -- ---- spaces
 
+abbrev pub finite_glue : ℤ → ℤ → ℤ → Glue
+finite_glue width stretch shrink = record { width = width; stretch = stretch; stretch_order = Finite; shrink = shrink; shrink_order = Finite }
+
 -- the glue between two words after this space factor, which is above 0; divisions are toward 0
+abbrev pub space_width : ℤ → ℤ → ℤ → ℤ
+space_width space extra_space factor = if int_le (pos 2000) factor then space +ℤ extra_space else space
+
 abbrev pub space_glue : Parameters → ℤ → Glue
-space_glue font factor = record {
-  width = if int_le (pos 2000) factor then font.space +ℤ font.extra_space else font.space;
-  stretch = int_div (font.stretch *ℤ factor) (pos 1000);
-  stretch_order = Finite;
-  shrink = int_div (font.shrink *ℤ pos 1000) factor;
-  shrink_order = Finite;
-}
+space_glue font factor =
+    finite_glue (space_width font.space font.extra_space factor) (int_div (font.stretch *ℤ factor) (pos 1000)) (int_div (font.shrink *ℤ pos 1000) factor)
 
 -- the three lengths of a glue are below 2^30 in size
 pub record IsSmallGlue (glue : Glue) : Type 0 where
