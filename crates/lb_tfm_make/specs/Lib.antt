@@ -1,0 +1,4 @@
+pub mod FontBytes
+pub mod FontSpecs
+pub mod MadeFonts
+pub mod TestFont
