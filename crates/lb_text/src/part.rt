@@ -1,5 +1,5 @@
 //! The parts of a word, and the nodes that they become.
-ghost use Rattle.std.specs.Prelude.{◌≡◌, ◌++◌, true, IfOk, OnOk};
+ghost use Rattle.std.specs.Prelude.{◌≡◌, ◌++◌, [], true, if◌then◌else◌, IfOk, OnOk};
 ghost use Rattle.lb_model_paper.specs.Words as words;
 ghost use Rattle.lb_model_paper.specs.Fonts as fonts;
 ghost use Rattle.lb_base.specs.declared.font.WordPart.TheVariants.{Letter, Ligature as LigaturePart};
@@ -26,6 +26,17 @@ pub fn side_of(part: &WordPart) -> Side
     }
 }
 
+/// The characters that a part stands for. Those of a ligature are not copied.
+pub fn into_letters(alloc: Global, part: WordPart) -> Result<Bytes, NoMemory>
+    ensures { IfOk result (λ letters. letters ≡ words.letters_of part) }
+{
+    match part {
+        WordPart::Edge => Ok(Listed::new(alloc)),
+        WordPart::Letter(code) => Listed::from_slice(alloc, &[code]),
+        WordPart::Ligature { letters, .. } => Ok(letters),
+    }
+}
+
 /// Puts the characters that a part stands for behind some others.
 fn push_letters(letters: &mut Bytes, part: &WordPart) -> Result<(), NoMemory>
     ensures { OnOk result (letters.new ≡ letters.old ++ words.letters_of part.now) }
@@ -37,21 +48,16 @@ fn push_letters(letters: &mut Bytes, part: &WordPart) -> Result<(), NoMemory>
     }
 }
 
-/// The ligature between two parts, which stands for those that it takes away.
+/// The ligature that stands for these characters and, where the next part is not kept, for those of
+/// that part.
 pub fn join(
-    alloc: Global,
     code: u8,
-    keep_left: bool,
     keep_right: bool,
-    left: &WordPart,
+    mut letters: Bytes,
     next: &WordPart,
 ) -> Result<WordPart, NoMemory>
-    ensures { IfOk result (λ part. part ≡ words.joined code keep_left keep_right left.now next.now) }
+    ensures { IfOk result (λ part. part ≡ LigaturePart code (letters ++ (if keep_right then [] else words.letters_of next.now))) }
 {
-    let mut letters = Listed::new(alloc);
-    if !keep_left {
-        push_letters(&mut letters, left)?;
-    }
     if !keep_right {
         push_letters(&mut letters, next)?;
     }

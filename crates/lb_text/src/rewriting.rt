@@ -7,8 +7,8 @@ ghost use Rattle.lb_model_paper.specs.Words as words;
 ghost use Rattle.lb_text.specs.Stops as stops;
 ghost use Rattle.lb_text.specs.Stops.{Begins, IsCursorStop, cursor_of};
 
-use crate::part::{join, push_part, side_of};
-use lb_base::{KernOrigin, Kind, LigStep, NoMemory, Node, NodeList, Stop, WordPart};
+use crate::part::{into_letters, join, push_part, side_of};
+use lb_base::{KernOrigin, Kind, LigStep, Listed, NoMemory, Node, NodeList, Stop, WordPart};
 use lb_tfm::Font;
 use std::alloc::Global;
 
@@ -71,22 +71,28 @@ fn pass(
 /// Puts a ligature between two parts, each of which is kept or not, and answers the part that is
 /// then at the left.
 fn put_ligature(
+    alloc: Global,
     stack: &mut Vec<WordPart>,
+    code: u8,
     keep_left: bool,
     keep_right: bool,
     left: WordPart,
-    ligature: WordPart,
     next: WordPart,
 ) -> Result<WordPart, NoMemory>
     ensures size { length stack.new.items ≤ length stack.old.items + 2 }
-    ensures ok { (made : List Node) → IfOk result (λ first. cursor_of made first stack.new.items ≡ words.with_ligature keep_left made left ligature (words.behind_ligature keep_right next (reverse stack.old.items))) }
+    ensures ok { (made : List Node) → IfOk result (λ first. cursor_of made first stack.new.items ≡ words.with_ligature keep_left made left (words.joined code keep_left keep_right left next) (words.behind_ligature keep_right next (reverse stack.old.items))) }
 {
-    if keep_right {
-        stack.push(next)?;
-    }
     if keep_left {
+        let ligature = join(code, keep_right, Listed::new(alloc), &next)?;
+        if keep_right {
+            stack.push(next)?;
+        }
         stack.push(ligature)?;
         return Ok(left);
+    }
+    let ligature = join(code, keep_right, into_letters(alloc, left)?, &next)?;
+    if keep_right {
+        stack.push(next)?;
     }
     Ok(ligature)
 }
@@ -124,8 +130,7 @@ fn take_step(
             keep_right,
             pass: count,
         } => {
-            let ligature = join(alloc, code, keep_left, keep_right, &left, &next)?;
-            let first = put_ligature(stack, keep_left, keep_right, left, ligature, next)?;
+            let first = put_ligature(alloc, stack, code, keep_left, keep_right, left, next)?;
             pass(alloc, font, list, stack, first, count)
         }
     }

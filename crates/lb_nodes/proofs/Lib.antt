@@ -1,0 +1,9 @@
+pub mod Amounts
+pub mod Endings
+pub mod NearestQuotients
+pub mod Nests
+pub mod Plans
+pub mod Shifting
+pub mod ShownLists
+pub mod Totalling
+pub mod Walks
