@@ -429,11 +429,40 @@ def words():
                 say('space', factor)
 
 
+def made():
+    """Fonts that are made, read at each size, with words of their ligatures."""
+    say('make')
+    for size in SIZES:
+        say('read', size)
+    for count, widths in ((0, 1), (1, 1), (1, 2), (2, 2), (3, 2), (254, 255), (255, 255), (256, 255), (256, 256), (256, 300),
+                          (255, 256), (200, 7)):
+        say('make', count, widths)
+        say('read', 655360)
+    say('make', 175, 9, 102, 105, 0, 174)
+    say('read', 655360)
+    for steps in (0, 1):
+        say('word', steps, 102, 105)
+    for step in ((65, 66, 128, 66), (200, 66, 0, 66), (65, 66, 0, 200)):
+        say('make', 100, 3, *step)
+    for count in (1, 2, 10, 60, 255, 256, 257, 1000):
+        pairs = [draw.randrange(100) for _ in range(count) for _ in range(2)]
+        steps = [n for k in range(count) for n in (pairs[2 * k], pairs[2 * k + 1], draw.randrange(128), draw.randrange(100))]
+        say('make', 100, 11, *steps)
+        say('read', draw.choice(SIZES))
+        say('read', 655360)
+        say('pairs') if count < 100 else None
+    numbers = [n for left in range(256) for n in (left, left, left % 12, 255 - left)]
+    say('make', 256, 200, *numbers)
+    say('read', 655360)
+    say('pairs')
+
+
 def main():
     arithmetic()
     fonts()
     boxes()
     words()
+    made()
 
 
 main()

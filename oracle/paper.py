@@ -427,6 +427,47 @@ def show_box(box):
     return text + ' at' + shifts + ' going' + shifts
 
 
+# ---- fonts that are made
+
+class TooManyWidths(Exception):
+    """A description has more than 255 distinct widths."""
+
+
+def fix(number):
+    return (number % 2 ** 32).to_bytes(4, 'big')
+
+
+def made_font(check, design, height, depth, parameters, rows, pairs):
+    """The file of a font: rows are codes with widths, and pairs are left, right, op and rem."""
+    widths = list(dict.fromkeys(width for _, width in rows))
+    if len(widths) > 255:
+        raise TooManyWidths
+    lefts = sorted({left for left, _, _, _ in pairs})
+    programs, starts = [], []
+    for left in lefts:
+        starts.append(len(lefts) + len(programs))
+        own = [pair for pair in pairs if pair[0] == left]
+        programs += [bytes([128 if k == len(own) - 1 else 0, *pair[1:]]) for k, pair in enumerate(own)]
+    steps = [bytes([254, 0, start // 256, start % 256]) for start in starts] + programs
+    first, last = rows[0][0], rows[-1][0]
+    infos = []
+    for code in range(first, last + 1):
+        if code not in dict(rows):
+            infos.append(bytes(4))
+        else:
+            tag = [1, lefts.index(code)] if code in lefts else [0, 0]
+            infos.append(bytes([1 + widths.index(dict(rows)[code]), 17, *tag]))
+    body = [fix(check), fix(design), *infos, fix(0), *map(fix, widths), fix(0), fix(height), fix(0), fix(depth), fix(0),
+            *steps, *map(fix, parameters)]
+    counts = [6 + len(body), 2, first, last, 1 + len(widths), 2, 2, 1, len(steps), 0, 0, 7]
+    return b''.join(count.to_bytes(2, 'big') for count in counts) + b''.join(body)
+
+
+def may_be_made(rows, pairs):
+    codes = [code for code, _ in rows]
+    return bool(codes) and all(left in codes and rem in codes and op < 128 for left, _, op, rem in pairs)
+
+
 # ---- commands
 
 class Desk:
@@ -515,6 +556,28 @@ class Desk:
         if found is None:
             return [f'{code} is missing']
         return ['{} is {} wide, {} high, {} deep, with {}'.format(code, *found)]
+
+    def do_make(self, *words):
+        if words:
+            count, widths, *numbers = map(int, words)
+            rows = [(code, (code % widths - 1) * 4099) for code in range(min(count, 256))]
+            pairs = [tuple(numbers[k:k + 4]) for k in range(0, len(numbers) - 3, 4)]
+            about = 3000000000, 10485760, 786432, -262144, [-5, 314573, 104858, -104858, 16777215, -16777215, 0]
+        else:
+            rows, pairs = [(code, 524288) for code in range(33, 127)], []
+            about = 0, 10485760, 786432, 262144, [0, 314573, 104858, 104858, 524288, 1048576, 104858]
+            if made_font(*about, rows, pairs) != (self.folder / 'cmr10.tfm').read_bytes():
+                raise ValueError('the test font is another one')
+        if not may_be_made(rows, pairs):
+            return ['such a font is not to be made']
+        try:
+            self.data = made_font(*about, rows, pairs)
+        except TooManyWidths:
+            return ['fault TooManyWidths']
+        digest = 0
+        for byte in self.data:
+            digest = (digest * 31 + byte) & MASK
+        return [f'made {len(self.data)} bytes of {digest}']
 
     def do_pairs(self):
         return show_pairs(self.font)

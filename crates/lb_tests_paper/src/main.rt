@@ -9,6 +9,7 @@ mod digest;
 mod fault;
 mod fonts;
 mod lists;
+mod making;
 mod number;
 mod stop;
 mod text;
@@ -49,6 +50,7 @@ fn run<R: Files + AllocGlobal>(
     let alloc = rt.alloc();
     if arithmetic::show(alloc, words, out)?
         || fonts::show(rt, words, shelf, out)?
+        || making::show(alloc, words, &mut shelf.bytes, out)?
         || lists::change(alloc, words, list)?
         || boxes::show(alloc, words, list, out)?
         || text::show(alloc, words, &shelf.font, out)?
