@@ -1,4 +1,5 @@
-//! What lies on paper: the bytes of DVI files, and the texts of aux and log files.
+//! What lies on paper: fonts, words and boxes, the bytes of DVI files, and the texts of aux and log
+//! files.
 #![tactic(auto)]
 
 pub mod rows;
