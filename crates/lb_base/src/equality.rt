@@ -16,7 +16,8 @@ fn same_metrics(metrics: Metrics, other: Metrics) -> bool
         && metrics.italic == other.italic
 }
 
-fn same_glue(glue: Glue, other: Glue) -> bool
+/// Whether two glues are the same.
+pub fn equal_glue(glue: Glue, other: Glue) -> bool
     ensures { IsTrue result ↔ (glue ≡ other) }
 {
     glue.width == other.width
@@ -44,7 +45,8 @@ fn same_token(token: &Tok, other: &Tok) -> bool
     token == other
 }
 
-fn same_tokens(tokens: &[Tok], others: &[Tok]) -> bool
+/// Whether two lists of tokens are the same.
+pub fn equal_tokens(tokens: &[Tok], others: &[Tok]) -> bool
     ensures { IsTrue result ↔ (tokens.now ≡ others.now) }
 {
     if tokens.len() != others.len() {
@@ -96,7 +98,7 @@ impl Note {
                 },
             ) => extension == other_extension
                 && kind == other_kind
-                && same_tokens(title.as_slice(), other_title.as_slice()),
+                && equal_tokens(title.as_slice(), other_title.as_slice()),
             (Note::Typeout(text), Note::Typeout(other)) => text == other,
             _ => false,
         }
@@ -132,7 +134,7 @@ impl Node {
                 },
             ) => width == other_width && origin == other_origin,
             (Node::Lig(ligature), Node::Lig(other)) => ligature.get().equals(other.get()),
-            (Node::Glue(glue), Node::Glue(other)) => same_glue(*glue, *other),
+            (Node::Glue(glue), Node::Glue(other)) => equal_glue(*glue, *other),
             (Node::Penalty(penalty), Node::Penalty(other)) => penalty == other,
             (Node::Disc(parts), Node::Disc(other)) => parts.get().equals(other.get()),
             (Node::Rule(size), Node::Rule(other)) => same_rule(*size, *other),

@@ -18,7 +18,7 @@ pub mod scaled;
 pub mod token;
 
 pub use copying::copy_nodes;
-pub use equality::equal_nodes;
+pub use equality::{equal_glue, equal_nodes, equal_tokens};
 pub use fault::{Fault, Kind, Stop};
 pub use fit::badness;
 pub use font::{LigStep, Metrics, Parameters, Side, WordPart};

@@ -8,6 +8,7 @@ ghost use Rattle.lb_files.specs.Stops.{MayStop};
 use crate::outside::{Folder, FolderStop};
 use lb_base::{Bytes, Moment, Name};
 use lb_model::{FileMap, STEPS_AT_START, World};
+use lb_values::Shared;
 use std::alloc::{AllocError, Global};
 use thiserror::Error;
 
@@ -120,13 +121,14 @@ fn take_file<F: Folder>(
         return Ok(());
     }
     let bytes = folder.read(alloc, name)?;
-    put(files, name, bytes)
+    put(alloc, files, name, bytes)
 }
 
-fn put(files: &mut FileMap, name: &Name, bytes: Bytes) -> Result<(), LoadStop>
+fn put(alloc: Global, files: &mut FileMap, name: &Name, bytes: Bytes) -> Result<(), LoadStop>
     ensures ok { OnOk result (files.new ≡ map.insert files.old name.now bytes) }
     ensures err { IfErr result (λ e. e ≡ LoadStop.Memory) }
 {
+    let bytes = Shared::new(alloc, bytes)?;
     files.insert(name.clone()?, bytes)?;
     Ok(())
 }

@@ -1,1 +1,4 @@
+pub mod KeptLemmas
 pub mod Places
+pub mod StartWords
+pub mod Starts

@@ -1,5 +1,14 @@
 pub mod Causes
 pub mod Files
+pub mod FontTable
 pub mod Journal
+pub mod Kept
+pub mod Kinds
+pub mod Lines
 pub mod Places
+pub mod Ranges
+pub mod Settings
+pub mod StartLists
+pub mod StartState
+pub mod Tokens
 pub mod Worlds

@@ -6,13 +6,15 @@ ghost use Rattle.lb_model.specs.Files.{name_cmp};
 ghost use Rattle.lb_model.specs.Places.{IsAt, IsGapFor};
 
 use lb_base::{Bytes, Name};
+use lb_values::Shared;
 use std::alloc::{AllocError, Global};
 use std::marker::Model;
 
-/// Files by name, in the order of the names. Contracts see a finite map from names to bytes.
+/// Files by name, in the order of the names. Contracts see a finite map from names to bytes. A file's bytes are shared by all
+/// that hold them.
 #[derive(Drop)]
 pub struct FileMap {
-    files: Vec<(Name, Bytes)>,
+    files: Vec<(Name, Shared<Bytes>)>,
 }
 
 impl Model for FileMap {
@@ -43,6 +45,13 @@ impl FileMap {
     pub fn get(&self, name: &Name) -> Option<&Bytes>
         ensures { option_copied result ≡ map.get self.now name.now }
     {
+        Some(self.shared(name)?.get())
+    }
+
+    /// The bytes of a file, as `get` has them, to be held by more than one.
+    pub fn shared(&self, name: &Name) -> Option<&Shared<Bytes>>
+        ensures { option_copied result ≡ map.get self.now name.now }
+    {
         match self.search(name) {
             Ok(at) => Some(&self.files[at].1),
             Err(_) => None,
@@ -50,7 +59,7 @@ impl FileMap {
     }
 
     /// The files in the order of their names. Takes no memory.
-    pub fn as_slice(&self) -> &[(Name, Bytes)]
+    pub fn as_slice(&self) -> &[(Name, Shared<Bytes>)]
         ensures { result.now ≡ map.entries self.now }
     {
         self.files.as_slice()
@@ -58,7 +67,7 @@ impl FileMap {
 
     /// Puts a file into the map, in place of one of that name. Files that come in the order of their
     /// names cost no more than their search.
-    pub fn insert(&mut self, name: Name, bytes: Bytes) -> Result<(), AllocError>
+    pub fn insert(&mut self, name: Name, bytes: Shared<Bytes>) -> Result<(), AllocError>
         ensures ok { OnOk result (self.new ≡ map.insert self.old name bytes) }
         ensures err { OnErr result (self.new ≡ self.old) }
     {

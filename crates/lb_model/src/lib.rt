@@ -1,8 +1,14 @@
-//! What a run reads, and the journal of what it writes.
+//! What a run reads, the state that a book is set in, and the journal of what is written.
 #![tactic(auto)]
 
+pub mod cells;
 pub mod files;
+pub mod laws;
+pub mod reading;
+pub mod reads;
 pub mod world;
 
+pub use cells::Cells;
 pub use files::FileMap;
+pub use reading::{Read, ReaderState};
 pub use world::{STEPS_AT_START, World};

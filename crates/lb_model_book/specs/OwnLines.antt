@@ -1,7 +1,7 @@
 -- Lines that hold one command and nothing else.
 use Rattle.std.specs.Prelude.{ℕ, ◌+◌, Bool, ◌&&◌, ◌||◌, not, ◌==◌, nat_eq, nat_le, List, [], ◌∷◌, length, drop, take_while, codes, if◌then◌else◌, Option, None, Some}
 use Rattle.std.specs.List.{starts_with, list_any}
-use Rattle.lb_model_book.specs.Lines.{is_empty, starts_with_byte}
+use Rattle.lb_model.specs.Lines.{is_empty, starts_with_byte}
 
 -- a space or a tab
 abbrev pub is_blank : ℕ → Bool

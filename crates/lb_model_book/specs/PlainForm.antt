@@ -5,7 +5,7 @@ use Rattle.std.specs.FinMap.{get, entries}
 use lib.Pointwise.{pointwise}
 use Rattle.lb_model.specs.declared.world.World.{World}
 use Rattle.lb_model_paper.specs.Dvi.{word, half}
-use Rattle.lb_model_book.specs.Lines.{lines_of, is_empty}
+use Rattle.lb_model.specs.Lines.{lines_of, is_empty}
 use Rattle.lb_model_book.specs.OwnLines.{is_own_line, included_name}
 
 -- file names

@@ -5,7 +5,7 @@ use Rattle.std.proofs.Math.Dec.{eqb-suc-zero}
 use Rattle.std.specs.Prelude.{◌==◌, ◌&&◌, ◌||◌, not, nat_le, nat_lt, if◌then◌else◌}
 use Rattle.std.specs.List.{filter, list_all}
 use Rattle.std.proofs.lemmas.Bool.{le-leb, lt-leb, le-ltb, both_ways, and_parts, ltb-true, ltb-false}
-use Rattle.lb_model_book.specs.Lines.{lines_of, is_empty, cut_at_feeds, without_returns}
+use Rattle.lb_model.specs.Lines.{lines_of, is_empty, cut_at_feeds, without_returns}
 use Rattle.lb_model_book.specs.PlainForm.{is_plain_text, is_plain_line, are_apart, lines_with_text, is_spaced}
 use Rattle.lb_plain.specs.Parts.{is_allowed}
 

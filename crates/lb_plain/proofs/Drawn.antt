@@ -8,7 +8,7 @@ use Rattle.std.proofs.lemmas.Int.{ints}
 use Rattle.lb_base.specs.declared.page.Mark.{Mark}
 use Rattle.lb_base.specs.declared.page.Mark.TheVariants.{Char}
 use Rattle.lb_model_paper.specs.Dvi.{IsSmall, IsSmallMark}
-use Rattle.lb_model_book.specs.Lines.{lines_of, is_empty}
+use Rattle.lb_model.specs.Lines.{lines_of, is_empty}
 use Rattle.lb_model_book.specs.PlainForm.{is_plain_text, is_plain_line, lines_with_text}
 use Rattle.lb_model_book.specs.PlainPages.{roman, advance, row_marks, line_marks, lines_marks, number_marks}
 use Rattle.lb_plain.specs.Marks.{IsRoman}

@@ -4,7 +4,7 @@ use Rattle.std.specs.List.{list_all, AllByRecursion}
 use Rattle.std.specs.FinMap.{get, entries}
 use Rattle.std.proofs.lemmas.Bool.{and_parts, leb-true}
 use Rattle.lb_model.specs.declared.world.World.{World}
-use Rattle.lb_model_book.specs.Lines.{lines_of}
+use Rattle.lb_model.specs.Lines.{lines_of}
 use Rattle.lb_model_book.specs.PlainForm.{plain_names, names_of_main, names_in_text, names_if_plain, tex_file, is_plain_book, is_plain_chapter, is_plain_text, is_some_plain, are_distinct, is_among, has_test_font, is_labelled}
 use Rattle.lb_plain.specs.Chapters.{IsPlainChapter, ArePlainChapters}
 

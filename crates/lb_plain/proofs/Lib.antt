@@ -1,5 +1,3 @@
-pub mod FirstLine
-pub mod LineEnds
 pub mod Blanks
 pub mod Spaced
 pub mod ChapterLemmas

@@ -1,11 +1,11 @@
 -- The names of a main file, one line after another.
 use Rattle.std.proofs.Common.{◌≡◌, ℕ, suc, Bool, true, false, List, [], ◌∷◌, ◌++◌, length, refl, ap, sym, ◌∙◌, append_assoc, append-nil, Option, None, Some, codes, ◌==◌, ◌<◌, arith, if◌then◌else◌}
-use Rattle.lb_model_book.specs.Lines.{lines_of}
+use Rattle.lb_model.specs.Lines.{lines_of}
 use Rattle.lb_model_book.specs.OwnLines.{is_own_line, included_name}
 use Rattle.lb_model_book.specs.PlainForm.{names_of_main, names_to_end, before_names}
 use Rattle.std.proofs.lemmas.Bool.{eqb-false}
 use Rattle.lb_plain.specs.Parts.{is_opening}
-use Rattle.lb_plain.proofs.FirstLine.{first_line, tail_of}
+use Rattle.lb_tokens.proofs.FirstLine.{first_line, tail_of}
 use Rattle.lb_plain.proofs.ChapterLemmas.{no_bytes, lines-none}
 
 -- names behind those that stand before them, where there are all

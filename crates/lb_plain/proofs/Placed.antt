@@ -4,7 +4,7 @@ use Rattle.std.specs.List.{list_all}
 use Rattle.std.specs.Int.{from_bool}
 use Rattle.std.proofs.lemmas.Bool.{and_parts, leb-true}
 use Rattle.lb_base.specs.declared.page.Mark.{Mark}
-use Rattle.lb_model_book.specs.Lines.{lines_of, is_empty}
+use Rattle.lb_model.specs.Lines.{lines_of, is_empty}
 use Rattle.lb_model_book.specs.PlainForm.{is_plain_text, is_plain_line, lines_with_text, is_spaced}
 use Rattle.lb_model_book.specs.PlainPages.{lines_marks, line_marks, row_marks}
 use Rattle.lb_plain.proofs.ChapterLemmas.{no_bytes, lines-none, empty-length}

@@ -1,18 +1,8 @@
 -- Parts of the form of plain books, as the code takes them.
-use Rattle.std.specs.Prelude.{ℕ, Bool, true, ◌&&◌, ◌||◌, not, nat_lt, nat_le, length, codes, ◌==◌, if◌then◌else◌, drop, List, [], ◌∷◌}
-use Rattle.lb_model_book.specs.Lines.{starts_with_byte, is_empty}
+use Rattle.std.specs.Prelude.{ℕ, Bool, ◌&&◌, ◌||◌, not, nat_lt, nat_le, length, codes, ◌==◌, if◌then◌else◌, List}
+use Rattle.lb_model.specs.Lines.{is_empty}
 use Rattle.lb_model_book.specs.OwnLines.{is_own_line}
 use Rattle.lb_model_book.specs.PlainForm.{is_plain_line, is_letter_or_digit, are_distinct, is_among}
-
--- whether a line ends here: at the text's end, at a line feed, or at a carriage return before one
-abbrev pub is_at_end : List ℕ → Bool
-is_at_end [] = true
-is_at_end (c ∷ rest) = c == 10 || (c == 13 && starts_with_byte 10 rest)
-
--- a text less the end of a line at its start, if there is one
-abbrev pub after_end : List ℕ → List ℕ
-after_end [] = []
-after_end (c ∷ rest) = if c == 10 then rest else if c == 13 && starts_with_byte 10 rest then drop 1 rest else c ∷ rest
 
 -- whether a line may stand in a chapter, behind a line that has text or none, and so many of them in all
 abbrev pub is_allowed : List ℕ → Bool → ℕ → Bool

@@ -3,7 +3,7 @@ ghost use Rattle.std.specs.Prelude.{◌≡◌, true};
 ghost use Rattle.lb_plain.specs.Parts.{is_allowed, may_follow};
 ghost use Rattle.lb_model_book.specs.PlainForm.{is_plain_text, is_plain_line, is_spaced};
 
-use crate::lines::split_line;
+use lb_tokens::split_line;
 
 const MOST_LINES: usize = 40;
 

@@ -12,6 +12,7 @@ use crate::font::TEST_FONT;
 use crate::main_file::names_of_main;
 use lb_base::{Bytes, Name, NameList, NoMemory};
 use lb_model::{FileMap, World};
+use lb_values::Shared;
 use std::alloc::Global;
 
 const MOST_CHAPTERS: usize = 1000;
@@ -112,10 +113,10 @@ fn has_labels(files: &FileMap) -> bool
 }
 
 // Whether a file is an aux file of an earlier run that has labels.
-fn is_labelled(file: &(Name, Bytes)) -> bool
+fn is_labelled(file: &(Name, Shared<Bytes>)) -> bool
     ensures { result ≡ is_labelled file.now }
 {
-    file.0.as_slice().ends_with(b".aux") && has_part(b"\\newlabel", file.1.as_slice())
+    file.0.as_slice().ends_with(b".aux") && has_part(b"\\newlabel", file.1.get().as_slice())
 }
 
 // Whether a part stands somewhere in a text.

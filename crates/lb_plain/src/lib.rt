@@ -4,7 +4,6 @@
 pub mod chapter;
 pub mod font;
 pub mod form;
-pub mod lines;
 pub mod main_file;
 pub mod own_lines;
 pub mod page;

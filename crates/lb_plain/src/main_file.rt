@@ -1,12 +1,12 @@
 //! The main file of a book.
 ghost use Rattle.std.specs.Prelude.{◌≡◌, IfOk};
-ghost use Rattle.lb_model_book.specs.Lines.{lines_of};
+ghost use Rattle.lb_model.specs.Lines.{lines_of};
 ghost use Rattle.lb_model_book.specs.PlainForm.{names_of_main, names_to_end};
 ghost use Rattle.lb_plain.specs.Parts.{is_opening};
 
-use crate::lines::split_line;
 use crate::own_lines::{included_name, is_own_line};
 use lb_base::{Name, NameList, NoMemory};
+use lb_tokens::split_line;
 use std::alloc::Global;
 
 /// The chapters of a main file that has a class line, a begin line, include lines and an end line,

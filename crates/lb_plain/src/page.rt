@@ -6,8 +6,8 @@ ghost use Rattle.lb_model_book.specs.PlainForm.{is_plain_text, lines_with_text};
 ghost use Rattle.lb_model_book.specs.PlainPages as pages;
 ghost use Rattle.lb_plain.specs.Marks.{IsRoman, character_marks};
 
-use crate::lines::split_line;
 use lb_base::{FontId, Mark, MarkList, Name, NoMemory, PageCode};
+use lb_tokens::split_line;
 use std::alloc::Global;
 
 const SIZE: u32 = 655360;

@@ -60,7 +60,7 @@ pub enum ParameterKind {
 }
 
 /// A parameter.
-#[derive(Clone, Copy, PartialEq, Eq)]
+#[derive(Clone, Copy, PartialEq, Eq, PartialOrd, Ord, Hash)]
 pub enum Parameter {
     AdjDemerits,
     BaselineSkip,

@@ -5,7 +5,7 @@ use Rattle.std.specs.List.{list_all, AllByRecursion}
 use Rattle.std.specs.FinMap.{get, entries}
 use Rattle.std.proofs.lemmas.Bool.{leb-true}
 use Rattle.lb_model.specs.declared.world.World.{World}
-use Rattle.lb_model_book.specs.Lines.{lines_of}
+use Rattle.lb_model.specs.Lines.{lines_of}
 use Rattle.lb_model_book.specs.PlainForm.{tex_file, names_of_main, plain_names, names_in_text, names_if_plain, is_plain_book, is_plain_chapter, are_distinct, is_among, has_test_font, is_labelled}
 
 first : (a b : Bool) → a && b ≡ true → a ≡ true

@@ -2,7 +2,7 @@
 use Rattle.std.specs.Prelude.{ℕ, Bool, ◌&&◌, not, nat_eq, nat_le, List, [], ◌∷◌, length, codes, if◌then◌else◌, Option, None, Some}
 use Rattle.std.specs.List.{list_all}
 use lib.Pointwise.{pointwise}
-use Rattle.lb_model_book.specs.Lines.{is_empty}
+use Rattle.lb_model.specs.Lines.{is_empty}
 use Rattle.lb_model_book.specs.PlainForm.{is_letter_or_digit}
 
 abbrev pub is_main : List ℕ → Bool

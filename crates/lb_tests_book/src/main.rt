@@ -10,6 +10,7 @@ use lb_base::{Bytes, FileList, Moment, Name, NumberList};
 use lb_disk::DiskFolder;
 use lb_files::{MemFolder, MemOutlet, MemSaid, load};
 use lb_run::{Status, run};
+use lb_values::Shared;
 use shown::{Stop, show_file, show_status};
 use std::alloc::{AllocError, Global};
 use std::env;
@@ -31,7 +32,7 @@ fn main(rt: HostRuntime) -> Result<(), Stop> {
 }
 
 /// The statuses of words that are not of the form that is taken, and of a main file that is not there.
-fn show_words<R>(rt: &R, all: &[(Name, Bytes)]) -> Result<(), Stop>
+fn show_words<R>(rt: &R, all: &[(Name, Shared<Bytes>)]) -> Result<(), Stop>
 where
     R: Print + AllocGlobal + Threads + Sync,
 {
@@ -53,7 +54,7 @@ where
     Ok(())
 }
 
-fn show_all<R>(rt: &R, all: &[(Name, Bytes)], words: &[String]) -> Result<(), Stop>
+fn show_all<R>(rt: &R, all: &[(Name, Shared<Bytes>)], words: &[String]) -> Result<(), Stop>
 where
     R: Print + AllocGlobal + Threads + Sync,
 {
@@ -67,11 +68,15 @@ where
 }
 
 /// The files of a book.
-fn files_of(alloc: Global, all: &[(Name, Bytes)], book: &str) -> Result<FileList, AllocError> {
+fn files_of(
+    alloc: Global,
+    all: &[(Name, Shared<Bytes>)],
+    book: &str,
+) -> Result<FileList, AllocError> {
     let mut files = FileList::new(alloc);
     for file in all {
         if let Some(name) = name_in(file.0.as_slice(), book.as_bytes()) {
-            let bytes = Bytes::from_slice(alloc, file.1.as_slice())?;
+            let bytes = Bytes::from_slice(alloc, file.1.get().as_slice())?;
             files.push((Name::from_slice(alloc, name)?, bytes))?;
         }
     }
@@ -117,7 +122,7 @@ fn set<R: Threads + Sync>(
 }
 
 /// Shows how a book ends, and the files that were begun in the order of their first begin.
-fn show_book<R>(rt: &R, all: &[(Name, Bytes)], book: &str) -> Result<(), Stop>
+fn show_book<R>(rt: &R, all: &[(Name, Shared<Bytes>)], book: &str) -> Result<(), Stop>
 where
     R: Print + AllocGlobal + Threads + Sync,
 {
@@ -136,7 +141,7 @@ where
 
 /// Shows a book with its k-th call of the outlet failing, for each k until none does, and then the
 /// same of the folder: the status, and how many bytes each file has.
-fn show_stops<R>(rt: &R, all: &[(Name, Bytes)], book: &str) -> Result<(), Stop>
+fn show_stops<R>(rt: &R, all: &[(Name, Shared<Bytes>)], book: &str) -> Result<(), Stop>
 where
     R: Print + AllocGlobal + Threads + Sync,
 {

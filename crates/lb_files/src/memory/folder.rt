@@ -7,6 +7,7 @@ use super::calls::Calls;
 use crate::outside::{Folder, FolderStop};
 use lb_base::{Bytes, FileList, Name, NameList, NoMemory, NumberList};
 use lb_model::FileMap;
+use lb_values::Shared;
 use std::alloc::{AllocError, Global};
 use std::marker::Model;
 
@@ -132,7 +133,8 @@ fn map_of(alloc: Global, files: FileList) -> Result<FileMap, AllocError>
     let mut rest = files.into_vec();
     let mut made = FileMap::new(alloc);
     while let Some((name, bytes)) = rest.pop() {
-        made.insert(name, bytes)?;
+        let shared = Shared::new(alloc, bytes)?;
+        made.insert(name, shared)?;
     }
     Ok(made)
 }

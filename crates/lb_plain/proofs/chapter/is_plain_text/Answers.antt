@@ -1,5 +1,5 @@
 use Rattle.std.proofs.Common.{◌∙◌, sym, arith}
-use Rattle.lb_model_book.specs.Lines.{lines_of}
+use Rattle.lb_model.specs.Lines.{lines_of}
 use Rattle.lb_plain.proofs.ChapterLemmas.{plain, fits-none, fits-stop, fits-more, few-more}
 use Rattle.lb_plain.proofs.chapter.is_plain_text.Goals as goal
 

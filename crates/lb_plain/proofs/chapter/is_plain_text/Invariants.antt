@@ -1,5 +1,5 @@
 use Rattle.std.proofs.Common.{◌≡◌, ◌≤◌, length}
-use Rattle.lb_model_book.specs.Lines.{lines_of}
+use Rattle.lb_model.specs.Lines.{lines_of}
 use Rattle.lb_model_book.specs.PlainForm.{is_plain_text}
 use Rattle.lb_plain.proofs.ChapterLemmas.{fits}
 use Rattle.lb_plain.proofs.chapter.is_plain_text.Given as goal

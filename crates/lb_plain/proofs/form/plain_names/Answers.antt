@@ -1,6 +1,6 @@
 use Rattle.std.proofs.Common.{◌∙◌, sym, ap, true, false}
 use Rattle.std.specs.FinMap.{get}
-use Rattle.lb_model_book.specs.Lines.{lines_of}
+use Rattle.lb_model.specs.Lines.{lines_of}
 use Rattle.lb_model_book.specs.PlainForm.{names_of_main, is_plain_book}
 use Rattle.lb_plain.proofs.Found.{plain-absent, plain-broken, plain-formed}
 use Rattle.lb_plain.proofs.form.plain_names.Goals as goal

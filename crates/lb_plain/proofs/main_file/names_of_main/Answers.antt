@@ -1,5 +1,5 @@
 use Rattle.std.proofs.Common.{◌≡◌, ◌∙◌, List, ℕ, Option, sym, subst, true, false, IfOk}
-use Rattle.lb_model_book.specs.Lines.{lines_of}
+use Rattle.lb_model.specs.Lines.{lines_of}
 use Rattle.lb_plain.proofs.Names.{main-none, main-one, main-two}
 use Rattle.lb_plain.proofs.main_file.names_of_main.Goals as goal
 

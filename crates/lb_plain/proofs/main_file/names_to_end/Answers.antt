@@ -1,5 +1,5 @@
 use Rattle.std.proofs.Common.{◌∙◌, ◌++◌, ◌∷◌, [], sym, ap}
-use Rattle.lb_model_book.specs.Lines.{lines_of}
+use Rattle.lb_model.specs.Lines.{lines_of}
 use Rattle.lb_model_book.specs.PlainForm.{names_to_end}
 use Rattle.lb_plain.proofs.Names.{behind, behind-none, ends_well, ends_badly, goes_on, no_name, no_lines, lines-some}
 use Rattle.lb_plain.proofs.main_file.names_to_end.Goals as goal

@@ -1,5 +1,5 @@
 use Rattle.std.proofs.Common.{◌≡◌, length}
-use Rattle.lb_model_book.specs.Lines.{lines_of}
+use Rattle.lb_model.specs.Lines.{lines_of}
 use Rattle.lb_model_book.specs.PlainForm.{names_to_end}
 use Rattle.lb_plain.proofs.Names.{behind}
 use Rattle.lb_plain.proofs.main_file.names_to_end.Given as goal

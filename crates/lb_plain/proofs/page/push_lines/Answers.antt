@@ -1,5 +1,5 @@
 use Rattle.std.proofs.Common.{◌∙◌, ◌++◌, sym}
-use Rattle.lb_model_book.specs.Lines.{lines_of}
+use Rattle.lb_model.specs.Lines.{lines_of}
 use Rattle.lb_model_book.specs.PlainForm.{lines_with_text}
 use Rattle.lb_model_book.specs.PlainPages.{lines_marks}
 use Rattle.lb_plain.proofs.Placed.{placed-none, placed-more, placed-all}

@@ -13,7 +13,7 @@ loop-name-preserved c =
     let items = c.in-Some.ensures.items in (
       last ∷ done,
       c.loop-name.invariant.1 ∙ ap (λ l. l ++ done) items ∙ append_assoc c.pop.new.self.items (last ∷ []) done,
-      c.in_ok-insert.ensures.ok ∙ ap (λ m. map.insert m c.in-Some.name c.in-Some.bytes) c.loop-name.invariant.2,
+      c.in_ok-insert.ensures.ok ∙ ap (map.insert c.loop-name.made c.in-Some.name) c.in_ok-shared.ensures ∙ ap (λ m. map.insert m c.in-Some.name c.in-Some.bytes) c.loop-name.invariant.2,
     )
 
 pub returns : goal.returns

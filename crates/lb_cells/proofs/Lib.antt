@@ -1,0 +1,5 @@
+pub mod Lists
+pub mod Saved
+pub mod Overlaid
+pub mod StartSteps
+pub mod StartMeaning

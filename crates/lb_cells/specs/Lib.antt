@@ -1,0 +1,3 @@
+pub mod CellMap
+pub mod StateCells
+pub mod StartEntries

@@ -1,0 +1,11 @@
+//! Fonts by style and size: their names and sizes, what lies between their baselines, and their files.
+#![tactic(auto)]
+
+mod loading;
+mod name;
+mod table;
+
+pub use lb_tfm::Font;
+pub use loading::load;
+pub use name::FontName;
+pub use table::{baselineskip, select};

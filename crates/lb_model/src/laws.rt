@@ -1,0 +1,29 @@
+//! Laws of the definitions.
+ghost use Rattle.std.specs.Prelude.{◌≡◌, ℕ, List, Contains};
+ghost use Rattle.lb_rows.specs.declared.command.Command.{Command};
+ghost use Rattle.lb_rows.specs.declared.parameter.Parameter.{Parameter};
+ghost use Rattle.lb_rows.specs.Commands.{command_name, command_names};
+ghost use Rattle.lb_rows.specs.Parameters.{parameter_name, parameter_names};
+ghost use Rattle.lb_values.specs.declared.cell.Cell.TheVariants.{Word};
+ghost use Rattle.lb_values.specs.declared.meaning.Meaning.TheVariants.{Row, Register};
+ghost use Rattle.lb_values.specs.declared.meaning.Register.TheVariants.{Par};
+ghost use Rattle.lb_values.specs.declared.value.Value.TheVariants.{Absent, Meaning};
+ghost use Rattle.lb_model.specs.Settings.{IsState};
+ghost use Rattle.lb_model.specs.StartState.{start};
+
+use lb_rows::laws::{each_name_in_one_table, names_and_rows};
+
+/// At the start each cell holds what it may hold.
+pub fn start_is_a_state()
+    ensures { IsState start }
+{}
+
+/// At the start exactly the names of the commands and the parameters have a meaning: each of them that command or parameter.
+pub fn start_means_the_rows()
+    ensures commands { (command : Command) → start (Word (command_name command)) ≡ Meaning (Row command) }
+    ensures parameters { (parameter : Parameter) → start (Word (parameter_name parameter)) ≡ Meaning (Register (Par parameter)) }
+    ensures others { (name : List ℕ) → ¬ Contains command_names name → ¬ Contains parameter_names name → start (Word name) ≡ Absent }
+{
+    names_and_rows();
+    each_name_in_one_table();
+}
