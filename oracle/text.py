@@ -91,9 +91,9 @@ def glue_text(width, stretch, order):
 def at_start():
     """The state at the start: texts of values by texts of cells."""
     state = {}
-    for name in COMMANDS:
+    for name in sorted(COMMANDS):
         state[f'word {name}'] = f'command {name}'
-    for name in PARAMETERS:
+    for name in sorted(PARAMETERS):
         state[f'word {name}'] = f'parameter {name}'
     for code in range(256):
         letter = code < 128 and chr(code).isalpha()

@@ -1,5 +1,5 @@
-pub mod Lists
 pub mod Saved
+pub mod Marks
 pub mod Overlaid
 pub mod StartSteps
 pub mod StartMeaning

@@ -12,6 +12,7 @@ use Rattle.lb_model.specs.Kept.{put}
 use Rattle.lb_model.specs.Settings.{State, laid_over}
 use Rattle.lb_cells.specs.CellMap.{at, KeepsEntries}
 use Rattle.lb_cells.specs.StateCells.{state_of}
+use Rattle.lb_cells.proofs.Saved.{held_now-put}
 
 some_of : {V : Type 0} (b : Bool) (v : V) (o o' : Option V) → (is_some o ≡ true → is_some o' ≡ true) → is_some (cond b (Some v) o) ≡ true → is_some (cond b (Some v) o') ≡ true
 some_of true v o o' f h = refl
@@ -48,13 +49,9 @@ last_or_before (x ∷ es) e q before last h = with_first (cell_eq q x.0) x.1 (at
 pub keeps-snoc : {V : Type 0} (es : List (Cell × V)) (e : Cell × V) (entries : List (Cell × V)) → KeepsEntries es entries → is_some (at entries e.0) ≡ true → KeepsEntries (es ++ e ∷ []) entries
 keeps-snoc es e entries k there q h = last_or_before es e q (k q) (λ same. ap (λ c. is_some (at entries c)) (cell_eq-true q e.0 same) ∙ there) h
 
-now_put : (b : Bool) (v : Value) (o : Option Value) → unwrap_or (cond b (Some v) o) Absent ≡ cond b v (unwrap_or o Absent)
-now_put true v o = refl
-now_put false v o = refl
-
 -- the state, once an entry is written
 pub state-put : (old new : List (Cell × Value)) (cell : Cell) (v : Value) → at new ≡ put cell (Some v) (at old) → state_of new ≡ put cell v (state_of old)
-state-put old new cell v e = ap (λ f q. unwrap_or (f q) Absent) e ∙ (λ i q. now_put (cell_eq cell q) v (at old q) i)
+state-put old new cell v e = held_now-put Absent old new cell v e
 
 -- the last write may be put into the state first
 laid_at : (es : List (Cell × Value)) (e : Cell × Value) (f : State) (q : Cell) → unwrap_or (at (es ++ e ∷ []) q) (f q) ≡ unwrap_or (at es q) (cond (cell_eq e.0 q) e.1 (f q))

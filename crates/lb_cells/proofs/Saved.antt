@@ -1,5 +1,6 @@
 -- Each standing save's cell has an entry.
-use Rattle.std.proofs.Common.{◌≡◌, Bool, true, false, cond, List, [], ◌∷◌, map, Some, None, refl, ap, sym, ◌∙◌}
+use Rattle.std.proofs.Common.{◌≡◌, Bool, true, false, cond, List, [], ◌∷◌, map, Some, None, Ok, Err, OnErr, refl, ap, sym, ◌∙◌}
+use Rattle.std.specs.declared.result.Result.{Result}
 use Rattle.std.specs.Prelude.{Option, is_some, unwrap_or}
 use Rattle.lb_values.specs.Cells.{cell_eq}
 use Rattle.lb_values.proofs.SameCells.{cell_eq-true, cell_eq-refl}
@@ -52,3 +53,16 @@ held_now-blank old new key cell blank k none e =
 pub at-put : {V : Type 0} (old new : List (Cell × V)) (key cell : Cell) (v : V) → key ≡ cell → at new ≡ put key (Some v) (at old) → at new cell ≡ Some v
 at-put old new key cell v k e =
     ap (λ f. f cell) e ∙ ap (λ b. cond b (Some v) (at old cell)) (ap (λ c. cell_eq c cell) k ∙ cell_eq-refl cell)
+
+-- what cells hold, once an entry is written
+now_put : {V : Type 0} (b : Bool) (blank v : V) (o : Option V) → unwrap_or (cond b (Some v) o) blank ≡ cond b v (unwrap_or o blank)
+now_put true blank v o = refl
+now_put false blank v o = refl
+
+pub held_now-put : {V : Type 0} (blank : V) (old new : List (Cell × V)) (cell : Cell) (v : V) → at new ≡ put cell (Some v) (at old) → held_now blank new ≡ put cell v (held_now blank old)
+held_now-put blank old new cell v e = ap (λ f q. unwrap_or (f q) blank) e ∙ (λ i q. now_put (cell_eq cell q) blank v (at old q) i)
+
+-- what holds, holds on an error
+pub on_err : {T E : Type 0} (r : Result T E) {P : Type 0} → P → OnErr r P
+on_err (Ok x) p = tt
+on_err (Err e) p = p

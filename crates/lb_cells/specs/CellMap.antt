@@ -1,5 +1,5 @@
 -- What a list of entries holds at a cell.
-use Rattle.std.specs.Prelude.{◌≡◌, Bool, true, false, List, [], ◌∷◌, Option, None, Some, is_some, unwrap_or}
+use Rattle.std.specs.Prelude.{◌≡◌, true, List, [], ◌∷◌, Option, None, Some, is_some, unwrap_or}
 use Rattle.std.specs.Map.{lookup}
 use Rattle.lb_values.specs.Cells.{cell_eq}
 use Rattle.lb_model.specs.Kept.{Kept, Save}
@@ -8,11 +8,6 @@ use Rattle.lb_values.specs.declared.cell.Cell.{Cell}
 -- what the entries hold at a cell
 unfoldable pub at : {V : Type 0} → List (Cell × V) → Cell → Option V
 at entries cell = lookup (cell_eq cell) entries
-
--- whether a save is of the cell
-abbrev pub is_save_of : {V : Type 0} → Cell → Option (Cell × V) → Bool
-is_save_of cell None = false
-is_save_of cell (Some s) = cell_eq cell s.0
 
 -- entries and standing saves, the last one first
 pub record Held (V : Type 0) : Type 0 where

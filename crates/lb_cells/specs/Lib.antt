@@ -1,3 +1,4 @@
 pub mod CellMap
+pub mod Marked
 pub mod StateCells
 pub mod StartEntries

@@ -5,7 +5,7 @@ ghost use Rattle.std.specs.Map.Iter.{deref_pair};
 ghost use Rattle.indexmap.specs.IndexMap.{insert_entry};
 ghost use Rattle.lb_values.specs.Cells.{cell_eq};
 ghost use Rattle.lb_model.specs.Kept.{put};
-ghost use Rattle.lb_cells.specs.CellMap.{at};
+ghost use Rattle.lb_cells.specs.CellMap.{at, held_now, KeepsEntries};
 
 use indexmap::IndexMap;
 use lb_base::NoMemory;
@@ -84,6 +84,37 @@ impl<V: Drop> CellMap<V> {
         if let Err(_) = self.insert(cell, value) {
             unreachable!()
         }
+    }
+
+    /// Gives a cell the value as `overwrite` does, and needs no cell of its own.
+    pub fn replace(&mut self, cell: &Cell, value: V)
+        requires { is_some (at self.old cell.now) ≡ true }
+        ensures { at self.new ≡ put cell.now (Some value) (at self.old) }
+    {
+        match self.map.get_mut(cell) {
+            Some(held) => *held = value,
+            None => unreachable!(),
+        }
+    }
+
+    /// Gives the cell an entry, `blank` where it has none.
+    pub fn make_entry(&mut self, cell: &Cell, blank: V) -> Result<(), NoMemory>
+        ensures same { held_now blank self.new ≡ held_now blank self.old }
+        ensures keeps { KeepsEntries self.old self.new }
+        ensures there { OnOk result (is_some (at self.new cell.now) ≡ true) }
+    {
+        if let None = self.get(cell) {
+            let entry = cell.clone()?;
+            self.insert(entry, blank)?;
+        }
+        Ok(())
+    }
+
+    /// Takes all entries out.
+    pub fn clear(&mut self)
+        ensures { self.new ≡ [] }
+    {
+        self.map.clear();
     }
 
     /// Takes the last entry out. Takes no memory.

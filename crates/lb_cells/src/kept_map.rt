@@ -20,25 +20,13 @@ pub struct KeptMap<V> {
 
 impl<V> Model for KeptMap<V> {
     ghost use Rattle.lb_cells.specs.CellMap.{Held, AllSaved};
+    ghost use Rattle.lb_cells.specs.Marked.{standing};
 
     ghost Value = { Held V };
 
-    ghost view = { λ k. record { entries = k.map; saves = k.saves } };
+    ghost view = { λ k. record { entries = k.map; saves = standing k.saves } };
 
-    ghost invariant = { λ k. AllSaved k.map k.saves };
-}
-
-// Gives the cell an entry, blank where it has none.
-fn with_entry<V: Drop>(map: &mut CellMap<V>, cell: &Cell, blank: V) -> Result<(), NoMemory>
-    ensures same { held_now blank map.new ≡ held_now blank map.old }
-    ensures keeps { KeepsEntries map.old map.new }
-    ensures there { OnOk result (is_some (at map.new cell.now) ≡ true) }
-{
-    if let None = map.get(cell) {
-        let entry = cell.clone()?;
-        map.insert(entry, blank)?;
-    }
-    Ok(())
+    ghost invariant = { λ k. AllSaved k.map (standing k.saves) };
 }
 
 impl<V> KeptMap<V> {
@@ -83,11 +71,34 @@ impl<V: Drop> KeptMap<V> {
         ensures ok { OnOk result ((blank : V) → kept blank self.new ≡ changed reach cell.now value (kept blank self.old)) }
         ensures err { OnErr result (self.new ≡ self.old) }
     {
+        match reach {
+            Reach::Local => self.change_locally(cell, value),
+            Reach::Global => self.change_globally(cell, value),
+        }
+    }
+
+    // Changes what the cell holds. Its saves stay.
+    fn change_locally(&mut self, cell: &Cell, value: V) -> Result<(), NoMemory>
+        ensures ok { OnOk result ((blank : V) → kept blank self.new ≡ changed Reach.Local cell.now value (kept blank self.old)) }
+        ensures err { OnErr result (self.new ≡ self.old) }
+    {
         let key = cell.clone()?;
         self.map.insert(key, value)?;
-        if reach == Reach::Global {
-            self.saves.void(cell);
+        Ok(())
+    }
+
+    // Changes what the cell holds, and makes its saves void. What takes memory comes first, so that nothing changes where it is short.
+    fn change_globally(&mut self, cell: &Cell, value: V) -> Result<(), NoMemory>
+        ensures ok { OnOk result ((blank : V) → kept blank self.new ≡ changed Reach.Global cell.now value (kept blank self.old)) }
+        ensures err { OnErr result (self.new ≡ self.old) }
+    {
+        if self.saves.is_empty() {
+            return self.change_locally(cell, value);
         }
+        let key = cell.clone()?;
+        self.saves.make_mark(cell)?;
+        self.map.insert(key, value)?;
+        self.saves.void(cell);
         Ok(())
     }
 
@@ -98,7 +109,7 @@ impl<V: Drop> KeptMap<V> {
         ensures err { OnErr result (kept blank self.new ≡ kept blank self.old) }
     {
         let key = cell.clone()?;
-        with_entry(&mut self.map, cell, blank)?;
+        self.map.make_entry(cell, blank)?;
         self.saves.push(key, now)?;
         Ok(())
     }
@@ -109,7 +120,7 @@ impl<V: Drop> KeptMap<V> {
         ensures keeps { KeepsEntries self.old.entries self.new.entries }
         ensures there { OnOk result (is_some (at self.new.entries cell.now) ≡ true) }
     {
-        with_entry(&mut self.map, cell, blank)?;
+        self.map.make_entry(cell, blank)?;
         Ok(())
     }
 

@@ -1,14 +1,10 @@
-use Rattle.std.proofs.Common.{◌∙◌, ap, sym, Some, Ok, Err, OnErr}
-use Rattle.std.specs.declared.result.Result.{Result}
+use Rattle.std.proofs.Common.{◌∙◌, ap, sym, Some}
 use Rattle.lb_values.specs.Cells.{cell_eq}
 use Rattle.lb_model.specs.Kept.{put}
 use Rattle.indexmap.specs.IndexMap.{insert_entry}
 use Rattle.lb_cells.specs.CellMap.{at}
+use Rattle.lb_cells.proofs.Saved.{on_err}
 use Rattle.lb_cells.proofs.cell_map.CellMap.insert.Goals as goal
-
-on_err : {T E : Type 0} (r : Result T E) {P : Type 0} → P → OnErr r P
-on_err (Ok x) p = tt
-on_err (Err e) p = p
 
 pub returns-in_err-insert-clause-absent : goal.returns-in_err-insert-clause-absent
 unfolding at cell_eq
