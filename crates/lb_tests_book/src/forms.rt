@@ -9,7 +9,8 @@ use std::alloc::{AllocError, Global};
 use std::fs;
 use std::rt::Files;
 
-const NAMES: [&str; 10] = ["0", "1", "2", "3", "4", "5", "6", "7", "8", "9"];
+/// The names of ten files, which the digits from 0 to 9 are.
+const NAMES: &str = "0123456789";
 
 pub fn show_forms<R>(rt: &R) -> Result<(), Stop>
 where
@@ -29,24 +30,29 @@ where
 /// calls failed.
 fn lead_outlet<O: Outlet>(alloc: Global, outlet: &mut O) -> Result<u32, AllocError> {
     let mut failed = 0u32;
-    for file in NAMES {
-        if outlet
-            .begin(&Name::from_slice(alloc, file.as_bytes())?)
-            .is_err()
-        {
+    for digit in NAMES.bytes() {
+        let name = Name::from_slice(alloc, &[digit])?;
+        if outlet.begin(&name).is_err() {
             failed = failed.saturating_add(1);
         }
     }
-    for part in ["a", "bc"] {
-        for file in NAMES {
-            let name = Name::from_slice(alloc, file.as_bytes())?;
-            if outlet.append(&name, part.as_bytes()).is_err() {
-                failed = failed.saturating_add(1);
-            }
-        }
+    for part in "a bc".split_whitespace() {
+        failed = failed.saturating_add(append_to_all(alloc, outlet, part.as_bytes())?);
     }
     if outlet.begin(&Name::from_slice(alloc, b"3")?).is_err() {
         failed = failed.saturating_add(1);
+    }
+    Ok(failed)
+}
+
+/// Appends to each file. Answers how many calls failed.
+fn append_to_all<O: Outlet>(alloc: Global, outlet: &mut O, part: &[u8]) -> Result<u32, AllocError> {
+    let mut failed = 0u32;
+    for digit in NAMES.bytes() {
+        let name = Name::from_slice(alloc, &[digit])?;
+        if outlet.append(&name, part).is_err() {
+            failed = failed.saturating_add(1);
+        }
     }
     Ok(failed)
 }
@@ -74,7 +80,7 @@ fn show_memory_outlets<R: Print + AllocGlobal>(rt: &R, alloc: Global) -> Result<
 
 fn files(alloc: Global) -> Result<FileList, AllocError> {
     let mut list = FileList::new(alloc);
-    for file in ["b.tex", "a.aux", "c.dvi"] {
+    for file in "b.tex a.aux c.dvi".split_whitespace() {
         let bytes = Bytes::from_slice(alloc, file.as_bytes())?;
         list.push((Name::from_slice(alloc, file.as_bytes())?, bytes))?;
     }
@@ -112,7 +118,7 @@ fn show_memory_folders<R: Print + AllocGlobal>(rt: &R, alloc: Global) -> Result<
 /// Says three lines, and answers how many calls failed.
 fn say_lines<S: Said>(said: &mut S) -> u32 {
     let mut failed = 0u32;
-    for line in ["one", "two", "three"] {
+    for line in "one two three".split_whitespace() {
         if said.say(line.as_bytes()).is_err() {
             failed = failed.saturating_add(1);
         }
@@ -140,9 +146,11 @@ where
     let mut outlet = DiskOutlet::new(rt.clone()?, alloc)?;
     let failed = lead_outlet(alloc, &mut outlet)?;
     println!(rt; "a disk outlet: {failed} failed")?;
-    for file in NAMES {
-        let bytes = fs::read(rt, file)?;
-        show_file(rt, file.as_bytes(), &bytes)?;
+    for start in 0..NAMES.len() {
+        if let Some(file) = NAMES.get(start..start + 1) {
+            let bytes = fs::read(rt, file)?;
+            show_file(rt, file.as_bytes(), &bytes)?;
+        }
     }
     let gone = Name::from_slice(alloc, b"gone/1")?;
     let refused = outlet.begin(&gone).is_err();
@@ -156,7 +164,7 @@ fn show_disk_folder<R>(rt: &R, alloc: Global) -> Result<(), Stop>
 where
     R: Files + Print + AllocGlobal + Clone + Drop,
 {
-    for path in ["sub/c.aux", "sub/low/d.toc"] {
+    for path in "sub/c.aux sub/low/d.toc".split_whitespace() {
         fs::write(rt, path, path)?;
     }
     rt.symlink("c.aux", "sub/link.aux")?;

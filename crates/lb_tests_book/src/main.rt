@@ -37,15 +37,7 @@ where
     R: Print + AllocGlobal + Threads + Sync,
 {
     let alloc = rt.alloc();
-    for line in [
-        "",
-        "set",
-        "gen 4",
-        "set main.tex",
-        "set --help",
-        "set main x",
-        "set none",
-    ] {
+    for line in "|set|gen 4|set main.tex|set --help|set main x|set none".split('|') {
         let files = files_of(alloc, all, "row1")?;
         let (status, _) = set(rt, alloc, line, files, &[], &[])?;
         println!(rt; "words: {line}")?;
