@@ -1,3 +1,4 @@
+pub mod Answers
 pub mod Badness
 pub mod Decimals
 pub mod Kinds

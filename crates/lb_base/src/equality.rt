@@ -99,7 +99,6 @@ impl Note {
             ) => extension == other_extension
                 && kind == other_kind
                 && equal_tokens(title.as_slice(), other_title.as_slice()),
-            (Note::Typeout(text), Note::Typeout(other)) => text == other,
             _ => false,
         }
     }

@@ -118,6 +118,4 @@ pub enum Note {
         kind: Name,
         title: TokList,
     },
-    /// A text for the log.
-    Typeout(Bytes),
 }

@@ -1,7 +1,10 @@
 -- Boxes: how a list is packed, and where the glue of a box is set (The TeXbook, chapter 12; tex.web, part 33, but that all the
 -- glue of a box is set by one fraction of the sum, so that no rounding adds up). Lengths are in scaled points.
-use Rattle.std.specs.Prelude.{◌≡◌, ℕ, suc, ◌+◌, ◌*◌, ◌/◌, ◌==◌, ◌≤◌, Bool, true, false, not, ◌&&◌, List, map, take, length, if◌then◌else◌, ℤ, pos, neg_ℤ, nat_abs, int_lt, ◌+ℤ◌, ◌-ℤ◌, ◌*ℤ◌}
+use Rattle.std.specs.Prelude.{◌≡◌, ℕ, suc, ◌+◌, ◌*◌, ◌/◌, ◌==◌, ◌≤◌, Bool, true, false, not, ◌&&◌, List, map, take, length, if◌then◌else◌, ℤ, pos, neg_ℤ, nat_abs, int_lt, ◌+ℤ◌, ◌-ℤ◌, ◌*ℤ◌, nat_lt, Result, Ok, Err}
+use Rattle.std.specs.List.{list_all, range_with_len}
 use Rattle.std.specs.Int.{is_negative}
+use Rattle.lb_base.specs.declared.fault.Kind.{Kind}
+use Rattle.lb_base.specs.declared.fault.Kind.TheVariants.{DepthLimit, DimenTooLarge}
 use Rattle.lb_base.specs.declared.glue.GlueSet.{GlueSet}
 use Rattle.lb_base.specs.declared.glue.Order.{Order}
 use Rattle.lb_base.specs.declared.glue.Order.TheVariants.{Finite, Fil, Fill, Filll}
@@ -9,9 +12,9 @@ use Rattle.lb_base.specs.declared.glue.Target.{Target}
 use Rattle.lb_base.specs.declared.glue.Target.TheVariants.{Natural, To, Spread}
 use Rattle.lb_base.specs.declared.node.Axis.{Axis}
 use Rattle.lb_base.specs.declared.node.Axis.TheVariants.{Horizontal, Vertical}
-use Rattle.lb_base.specs.declared.node.Boxed.{Boxed, out-Boxed}
+use Rattle.lb_base.specs.declared.node.Boxed.{Boxed, out-Boxed, roll-Boxed}
 use Rattle.lb_base.specs.declared.node.Node.{Node}
-use Rattle.lb_model_paper.specs.Dvi.{IsSmall, is_zero}
+use Rattle.lb_model_paper.specs.Dvi.{IsSmall, is_small, is_zero}
 use Rattle.lb_model_paper.specs.Nodes.{Size, along, largest, last_depth, most, natural_size, nesting_of, place_of_order, reach_down, reach_right, reach_up, shrink_of, stretch_of, total}
 
 -- ---- the size of a box
@@ -126,3 +129,51 @@ pub record IsSmallBox (axis : Axis) (nodes : List Node) (target : Target) : Type
 -- how many boxes stand inside one another in the box of a list
 abbrev pub nesting_of_list : List Node → ℕ
 nesting_of_list nodes = suc (most (map nesting_of nodes))
+
+-- ---- packing as a function
+
+-- each first part of a list, from the empty one to the whole, passes a test
+abbrev pub fronts_pass : (List Node → Bool) → List Node → Bool
+fronts_pass test nodes = list_all (λ k. test (take k nodes)) (range_with_len 0 (suc (length nodes)))
+
+abbrev pub are_small_in : (Order → ℤ) → Bool
+are_small_in f = is_small (f Finite) && (is_small (f Fil) && (is_small (f Fill) && is_small (f Filll)))
+
+-- `AreSmallSums` and `IsSmallBox` as tests
+abbrev pub are_small_sums : Axis → List Node → Bool
+are_small_sums axis nodes =
+    fronts_pass (λ front. is_small (natural_size axis front) && (are_small_in (λ order. total (stretch_of order) front) && are_small_in (λ order. total (shrink_of order) front))) nodes
+
+abbrev pub is_small_across : Axis → Size → Bool
+is_small_across Horizontal size = is_small size.height && is_small size.depth
+is_small_across Vertical size = is_small size.width
+
+abbrev pub are_small_shifts : GlueSet → List Node → Bool
+are_small_shifts set nodes = list_all (λ k. is_small (shift_after set nodes k)) (range_with_len 0 (suc (length nodes)))
+
+unfoldable pub is_small_box : Axis → List Node → Target → Bool
+is_small_box axis nodes target =
+    are_small_sums axis nodes
+    && (is_small (asked_size axis nodes target)
+    && (is_small_across axis (box_size axis nodes target)
+    && (is_small (excess_of axis nodes target) && are_small_shifts (set_of axis nodes target) nodes)))
+
+-- the box of a list
+abbrev pub packed : Axis → List Node → Target → Boxed
+packed axis nodes target = roll-Boxed (record {
+  axis = axis;
+  items = nodes;
+  width = (box_size axis nodes target).width;
+  height = (box_size axis nodes target).height;
+  depth = (box_size axis nodes target).depth;
+  shift = pos 0;
+  glue_set = set_of axis nodes target;
+})
+
+-- the box of a list of items without discretionaries, or why there is none: a sum that is not small comes first, and then more
+-- than 500 boxes inside one another
+unfoldable pub packs : Axis → List Node → Target → Result Boxed Kind
+packs axis nodes target =
+    if not (is_small_box axis nodes target) then Err DimenTooLarge
+    else if nat_lt 500 (nesting_of_list nodes) then Err DepthLimit
+    else Ok (packed axis nodes target)

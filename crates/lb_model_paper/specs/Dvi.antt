@@ -1,6 +1,6 @@
 -- The bytes of a DVI file, by the DVI format, version 2 (tex.web, parts 31 and 32). Of the commands that move it uses
 -- down and right alone, and no stack. Lengths are in scaled points.
-use Rattle.std.specs.Prelude.{ℕ, ◌+◌, ◌-◌, ◌/◌, ◌%◌, Bool, false, ◌&&◌, ◌==◌, nat_lt, nat_eq, List, [], ◌∷◌, ◌++◌, length, drop, reverse, replicate, codes, if◌then◌else◌, ◌||◌, ◌≤◌, Option, None, Some, ℤ, pos, negsuc, ◌-ℤ◌, ◌+ℤ◌, ◌≤ℤ◌}
+use Rattle.std.specs.Prelude.{ℕ, ◌+◌, ◌-◌, ◌/◌, ◌%◌, Bool, false, ◌&&◌, ◌==◌, nat_lt, nat_eq, List, [], ◌∷◌, ◌++◌, length, drop, reverse, replicate, codes, if◌then◌else◌, ◌||◌, ◌≤◌, Option, None, Some, ℤ, pos, negsuc, ◌-ℤ◌, ◌+ℤ◌, ◌≤ℤ◌, int_le}
 use Rattle.std.specs.Int.{w16, w32, to_be_bytes, cast_unsigned, int_max}
 use Rattle.std.specs.List.{list_any, position_or_len, AllByRecursion}
 use lib.Pointwise.{pointwise}
@@ -197,6 +197,9 @@ dvi m pages = preamble m ++ pages_bytes (reverse pages) ++ postamble (progress (
 pub record IsSmall (z : ℤ) : Type 0 where
   pub low : negsuc 1073741822 ≤ℤ z
   pub high : z ≤ℤ pos 1073741823
+
+abbrev pub is_small : ℤ → Bool
+is_small z = int_le (negsuc 1073741822) z && int_le z (pos 1073741823)
 
 -- what a mark of a page code has to be: its place is small, and so is the right end of a character; a font's name has at most 255 bytes
 pub record IsSmallChar (h v width : ℤ) (font : FontId) : Type 0 where

@@ -60,7 +60,10 @@ fn single(alloc: Global, words: &[&str]) -> Result<Option<Node>, Stop> {
         ["penalty", penalty] => Node::Penalty(length(penalty)?),
         ["note"] => Node::Note(Held::new(
             alloc,
-            Note::Typeout(Bytes::from_slice(alloc, b"text")?),
+            Note::Label {
+                key: Name::from_slice(alloc, b"key")?,
+                text: Bytes::from_slice(alloc, b"text")?,
+            },
         )?),
         _ => return Ok(None),
     };
