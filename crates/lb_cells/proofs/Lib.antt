@@ -1,5 +1,3 @@
-pub mod Saved
-pub mod Marks
 pub mod Overlaid
-pub mod StartSteps
 pub mod StartMeaning
+pub mod StartSteps

@@ -18,7 +18,7 @@ use Rattle.lb_values.specs.declared.value.Value.{Value}
 use Rattle.lb_values.specs.declared.value.Value.TheVariants as value
 use Rattle.lb_model.specs.StartLists.{start_counters, start_resets}
 use Rattle.lb_model.specs.StartState.{start, row_named, parameter_meaning, start_parameter, start_category, start_lower, start_upper, start_space_factor}
-use Rattle.lb_cells.specs.CellMap.{at}
+use Rattle.lb_maps.specs.CellMap.{at}
 use Rattle.lb_cells.specs.StateCells.{state_of}
 use Rattle.lb_cells.specs.StartEntries.{Entries, rows_over, commands_over, parameter_words_over, parameters_over, counters_over, tables, start_entries}
 

@@ -8,9 +8,9 @@ use Rattle.lb_values.specs.declared.cell.Cell.{Cell}
 use Rattle.lb_values.specs.declared.cell.Cell.TheVariants.{Cat, Lc, Uc, Sf}
 use Rattle.lb_values.specs.declared.value.Value.{Value}
 use Rattle.lb_values.specs.declared.value.Value.TheVariants as value
-use Rattle.lb_model.specs.Kept.{put}
+use Rattle.lb_values.specs.Kept.{put}
 use Rattle.lb_model.specs.StartState.{start_category, start_lower, start_upper, start_space_factor}
-use Rattle.lb_cells.specs.CellMap.{at}
+use Rattle.lb_maps.specs.CellMap.{at}
 use Rattle.lb_cells.specs.StartEntries.{Entries, rows_over, codes_below, code_over}
 
 -- one more row, before those that are laid

@@ -1,4 +1,2 @@
-pub mod CellMap
-pub mod Marked
-pub mod StateCells
 pub mod StartEntries
+pub mod StateCells

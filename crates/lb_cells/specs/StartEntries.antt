@@ -10,7 +10,7 @@ use Rattle.lb_values.specs.declared.value.Form.TheVariants.{Arabic}
 use Rattle.lb_values.specs.declared.value.PageStyle.TheVariants.{Plain}
 use Rattle.lb_values.specs.declared.value.Value.{Value}
 use Rattle.lb_values.specs.declared.value.Value.TheVariants as value
-use Rattle.lb_model.specs.Kept.{put}
+use Rattle.lb_values.specs.Kept.{put}
 use Rattle.lb_model.specs.StartLists.{checkpoint_names, start_counters, start_resets}
 use Rattle.lb_model.specs.StartState.{parameter_meaning, start_category, start_lower, start_upper, start_space_factor, start_parameter}
 

@@ -1,6 +1,6 @@
 //! Cells over one world and one state.
 ghost use Rattle.std.specs.Prelude.{◌≡◌, None, [], refl};
-ghost use Rattle.lb_cells.specs.StateCells.{cells_of, state_of};
+ghost use Rattle.lb_cells.specs.StateCells.{begun_state, cells_of};
 
 use crate::state::State;
 use crate::telling::tell;
@@ -19,9 +19,10 @@ impl<'a> Direct<'a> {
     /// The cells of a world and of a state, which is written in place. Saves of an earlier run are forgotten. Takes no memory.
     pub fn over(world: &'a World, state: &'a mut State) -> Direct<'a>
         ensures world { result.world.now ≡ world.now }
-        ensures entries { result.state.now.entries ≡ state.old.entries }
+        ensures base { result.state.now.base ≡ state.old.base }
+        ensures over { result.state.now.over ≡ state.old.over }
         ensures saves { result.state.now.saves ≡ [] }
-        ensures begun { result.state.now.begun ≡ state.old.entries }
+        ensures begun { result.state.now.begun ≡ state.old.over }
         ensures same_reference { result.state.ghost_name ≡ state.entry.ghost_name }
     {
         state.begin();
@@ -30,13 +31,13 @@ impl<'a> Direct<'a> {
 }
 
 impl<'a> Cells for Direct<'a> {
-    ghost agrees = { λ d p. (p.world ≡ d.world.now) × (p.state ≡ state_of d.state.now.begun) };
+    ghost agrees = { λ d p. (p.world ≡ d.world.now) × (p.state ≡ begun_state d.state.now) };
 
     ghost meaning = { λ d p. cells_of d.state.now };
 
     ghost notes = { λ d. None };
 
-    ghost made = { λ d. record { world = d.world.now; state = state_of d.state.now.begun } };
+    ghost made = { λ d. record { world = d.world.now; state = begun_state d.state.now } };
 
     ghost made_agrees = { λ d. (refl, refl) };
 

@@ -1,49 +1,49 @@
 //! Writes, and how they are laid over a state.
-ghost use Rattle.std.specs.Prelude.{◌≡◌, OnOk, OnErr};
-ghost use Rattle.lb_values.specs.declared.value.Value.TheVariants.{Absent};
+ghost use Rattle.std.specs.Prelude.{◌≡◌, None, OnOk, OnErr, is_some, true};
 ghost use Rattle.lb_model.specs.Settings.{laid_over};
-ghost use Rattle.lb_cells.specs.CellMap.{at, kept, KeepsEntries};
-ghost use Rattle.lb_cells.specs.StateCells.{state_of};
+ghost use Rattle.lb_maps.specs.CellMap.{at, held_now, KeepsEntries};
+ghost use Rattle.lb_cells.specs.StateCells.{put_write, told_state, written_over};
 
-use crate::cell_map::CellMap;
-use crate::kept_map::KeptMap;
 use crate::state::State;
 use lb_base::NoMemory;
-use lb_values::Value;
+use lb_maps::{CellMap, KeptMap};
+use lb_values::{Cell, Value};
 
-/// Values of cells that are to be laid over a state. An `Absent` one takes the cell's value away.
-pub type Writes = CellMap<Value>;
+/// Values of cells that are to be laid over a state. An `Absent` one takes the cell's value away, and `None` is no write.
+pub type Writes = CellMap<Option<Value>>;
 
 /// Lays all the writes over the state, or none where memory is short. Saves stay.
 pub fn overlay(state: &mut State, writes: Writes) -> Result<(), NoMemory>
-    ensures ok { OnOk result (state_of state.new.entries ≡ laid_over (at writes) (state_of state.old.entries)) }
-    ensures err { OnErr result (state_of state.new.entries ≡ state_of state.old.entries) }
+    ensures ok { OnOk result (told_state state.new ≡ laid_over (held_now None writes) (told_state state.old)) }
+    ensures err { OnErr result (told_state state.new ≡ told_state state.old) }
+    ensures base { state.new.base ≡ state.old.base }
     ensures saves { state.new.saves ≡ state.old.saves }
     ensures begun { state.new.begun ≡ state.old.begun }
 {
-    make_entries(&mut state.cells, &writes)?;
-    overwrite_all(&mut state.cells, writes);
-    Ok(())
-}
-
-// Gives each cell that is written an entry, which changes no meaning.
-fn make_entries(cells: &mut KeptMap<Value>, writes: &Writes) -> Result<(), NoMemory>
-    ensures same { kept Absent cells.new ≡ kept Absent cells.old }
-    ensures there { OnOk result (KeepsEntries writes.now cells.new.entries) }
-{
-    for place in 0..writes.len() {
-        cells.make_entry(writes.entry(place).0, Value::Absent)?;
-    }
+    state.over.make_entries(&writes)?;
+    overwrite_all(&mut state.over, writes);
     Ok(())
 }
 
 // Writes into entries that are there, which takes no memory.
-fn overwrite_all(cells: &mut KeptMap<Value>, mut writes: Writes)
-    requires { KeepsEntries writes cells.old.entries }
-    ensures now { state_of cells.new.entries ≡ laid_over (at writes) (state_of cells.old.entries) }
-    ensures saves { cells.new.saves ≡ cells.old.saves }
+fn overwrite_all(over: &mut KeptMap<Option<Value>>, mut writes: Writes)
+    requires { KeepsEntries writes over.old.entries }
+    ensures now { held_now None over.new.entries ≡ written_over (held_now None writes) (held_now None over.old.entries) }
+    ensures saves { over.new.saves ≡ over.old.saves }
 {
-    while let Some((cell, value)) = writes.pop() {
-        cells.overwrite(cell, value);
+    while let Some((cell, write)) = writes.pop() {
+        write_one(over, cell, write);
+    }
+}
+
+// Writes into an entry that is there. `None` is no write.
+fn write_one(over: &mut KeptMap<Option<Value>>, cell: Cell, write: Option<Value>)
+    requires { is_some (at over.old.entries cell) ≡ true }
+    ensures now { held_now None over.new.entries ≡ put_write cell write (held_now None over.old.entries) }
+    ensures keeps { KeepsEntries over.old.entries over.new.entries }
+    ensures saves { over.new.saves ≡ over.old.saves }
+{
+    if let Some(value) = write {
+        over.overwrite(cell, Some(value));
     }
 }

@@ -2,20 +2,20 @@
 ghost use Rattle.std.specs.Prelude.{◌≡◌, [], Some, IfOk, OnOk};
 ghost use Rattle.lb_values.specs.declared.cell.Cell.TheVariants.{Fresh};
 ghost use Rattle.lb_values.specs.declared.value.Value.TheVariants as value;
-ghost use Rattle.lb_model.specs.Kept.{put};
+ghost use Rattle.lb_values.specs.Kept.{put};
 ghost use Rattle.lb_model.specs.StartState.{start};
-ghost use Rattle.lb_cells.specs.CellMap.{at};
+ghost use Rattle.lb_maps.specs.CellMap.{at};
 ghost use Rattle.lb_cells.specs.StartEntries.{fresh_over, layout_over, start_entries, tables, text_over};
-ghost use Rattle.lb_cells.specs.StateCells.{state_of};
+ghost use Rattle.lb_cells.specs.StateCells.{told_state};
 
 mod codes;
 mod counters;
 mod parameters;
 mod words;
 
-use crate::overlays::Writes;
 use crate::state::State;
 use lb_base::{Bytes, Name, NoMemory};
+use lb_maps::CellMap;
 use lb_values::{Cell, Form, PageStyle, RegisterKind, Shared, Value};
 use std::alloc::Global;
 
@@ -26,16 +26,16 @@ impl State {
     /// The state in which a book begins: the commands and the parameters under their names, and what plain TeX and the book class
     /// set.
     pub fn start(alloc: Global) -> Result<State, NoMemory>
-        ensures state { IfOk result (λ s. state_of s.entries ≡ start) }
+        ensures state { IfOk result (λ s. told_state s ≡ start) }
         ensures saves { IfOk result (λ s. s.saves ≡ []) }
     {
         let entries = entries_at_start(alloc)?;
-        Ok(State::from_map(alloc, entries))
+        State::from_map(alloc, entries)
     }
 }
 
 // What is stored for each cell at the start.
-fn entries_at_start(alloc: Global) -> Result<Writes, NoMemory>
+fn entries_at_start(alloc: Global) -> Result<CellMap<Value>, NoMemory>
     ensures { IfOk result (λ entries. at entries ≡ start_entries) }
 {
     let mut entries = tables_at_start(alloc)?;
@@ -48,10 +48,10 @@ fn entries_at_start(alloc: Global) -> Result<Writes, NoMemory>
 }
 
 // Names, parameters and counters.
-fn tables_at_start(alloc: Global) -> Result<Writes, NoMemory>
+fn tables_at_start(alloc: Global) -> Result<CellMap<Value>, NoMemory>
     ensures { IfOk result (λ entries. at entries ≡ tables) }
 {
-    let mut entries = Writes::new(alloc);
+    let mut entries = CellMap::new(alloc);
     parameters::fill_parameters(&mut entries)?;
     words::fill_parameter_words(alloc, &mut entries)?;
     words::fill_commands(alloc, &mut entries)?;
@@ -61,7 +61,7 @@ fn tables_at_start(alloc: Global) -> Result<Writes, NoMemory>
 }
 
 // The next free register of each kind.
-fn fill_fresh(entries: &mut Writes) -> Result<(), NoMemory>
+fn fill_fresh(entries: &mut CellMap<Value>) -> Result<(), NoMemory>
     ensures { OnOk result (at entries.new ≡ fresh_over (at entries.old)) }
 {
     fill_kind(entries, RegisterKind::Count)?;
@@ -72,7 +72,7 @@ fn fill_fresh(entries: &mut Writes) -> Result<(), NoMemory>
     Ok(())
 }
 
-fn fill_kind(entries: &mut Writes, kind: RegisterKind) -> Result<(), NoMemory>
+fn fill_kind(entries: &mut CellMap<Value>, kind: RegisterKind) -> Result<(), NoMemory>
     ensures { OnOk result (at entries.new ≡ put (Fresh kind) (Some (value.Number FIRST_FREE)) (at entries.old)) }
 {
     entries.insert(Cell::Fresh(kind), Value::Number(FIRST_FREE))?;
@@ -80,7 +80,7 @@ fn fill_kind(entries: &mut Writes, kind: RegisterKind) -> Result<(), NoMemory>
 }
 
 // What tells where the text stands in the book, and how its pages look.
-fn fill_layout(entries: &mut Writes) -> Result<(), NoMemory>
+fn fill_layout(entries: &mut CellMap<Value>) -> Result<(), NoMemory>
     ensures { OnOk result (at entries.new ≡ layout_over (at entries.old)) }
 {
     entries.insert(Cell::Body, Value::Number(0))?;
@@ -92,7 +92,7 @@ fn fill_layout(entries: &mut Writes) -> Result<(), NoMemory>
 }
 
 // The label, the environment and the font of the text, which is upright and of normal size.
-fn fill_text(alloc: Global, entries: &mut Writes) -> Result<(), NoMemory>
+fn fill_text(alloc: Global, entries: &mut CellMap<Value>) -> Result<(), NoMemory>
     ensures { OnOk result (at entries.new ≡ text_over (at entries.old)) }
 {
     let label = Shared::new(alloc, Bytes::new(alloc))?;

@@ -1,4 +1,3 @@
-pub mod KeptLemmas
 pub mod Places
 pub mod StartWords
 pub mod Starts

@@ -1,8 +1,8 @@
 pub mod Causes
 pub mod Files
 pub mod FontTable
+pub mod HeldNumbers
 pub mod Journal
-pub mod Kept
 pub mod Kinds
 pub mod Lines
 pub mod Places
@@ -11,4 +11,5 @@ pub mod Settings
 pub mod StartLists
 pub mod StartState
 pub mod Tokens
+pub mod Told
 pub mod Worlds

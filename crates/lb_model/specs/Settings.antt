@@ -11,7 +11,7 @@ use Rattle.lb_values.specs.declared.reach.Reach.{Reach}
 use Rattle.lb_values.specs.declared.value.Value.{Value}
 use Rattle.lb_values.specs.declared.value.Value.TheVariants as value
 use Rattle.lb_model.specs.declared.world.World.{World}
-use Rattle.lb_model.specs.Kept.{Kept, changed, saved, undone}
+use Rattle.lb_values.specs.Kept.{Kept, changed, saved, undone}
 use Rattle.lb_model.specs.Ranges.{fits}
 
 -- a state: what each cell holds, Absent where it has no value
@@ -64,6 +64,11 @@ with_cell cell told = cond (list_any (cell_eq cell) told) told (told ++ cell ∷
 -- the notes once a cell is told
 abbrev pub noted : Cell → Notes → Notes
 noted cell n = cond (n.written.now cell) n (record n { told = with_cell cell n.told })
+
+-- the notes once cells are told, one after another
+abbrev pub noted_all : List Cell → Notes → Notes
+noted_all [] notes = notes
+noted_all (cell ∷ cells) notes = noted_all cells (noted cell notes)
 
 -- the notes once a cell is changed, once it is saved, and once the last save is undone
 abbrev pub noted_change : Reach → Cell → Notes → Notes

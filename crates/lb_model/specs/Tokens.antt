@@ -10,10 +10,10 @@ use Rattle.lb_model.specs.declared.reading.Read.{Read}
 use Rattle.lb_model.specs.declared.reading.Read.TheVariants as read
 use Rattle.lb_model.specs.declared.reading.ReaderState.{ReaderState}
 use Rattle.lb_model.specs.declared.reading.ReaderState.TheVariants.{NewLine, MidLine, SkipBlanks}
-use Rattle.lb_model.specs.Kept.{Kept}
+use Rattle.lb_values.specs.Kept.{Kept}
 use Rattle.lb_model.specs.Kinds.{category_of}
 use Rattle.lb_model.specs.Lines.{cut_at_feeds, trimmed, without_returns}
-use Rattle.lb_model.specs.Settings.{Setting, Notes, look, noted}
+use Rattle.lb_model.specs.Settings.{Setting, Notes, look, noted_all}
 
 -- ---- Lines
 
@@ -39,11 +39,7 @@ is_letter _ = false
 abbrev pub categories : Setting → Kept Value → ℕ → Category
 categories p kept code = category_of (look p.world kept.now (Cat code))
 
--- the notes once cells are told, one after another, and once the categories of codes are
-abbrev pub noted_all : List Cell → Notes → Notes
-noted_all [] notes = notes
-noted_all (cell ∷ cells) notes = noted_all cells (noted cell notes)
-
+-- the notes once the categories of codes are told
 abbrev pub noted_codes : List ℕ → Notes → Notes
 noted_codes examined = noted_all (map Cat examined)
 

@@ -2,7 +2,7 @@
 ghost use Rattle.std.specs.Prelude.{◌≡◌, ◌<◌, IfOk, OnOk, OnErr, Option, true, ℕ, length};
 ghost use Rattle.std.specs.Option.{option_map};
 ghost use Rattle.lb_values.specs.declared.value.Value.{Value as Held};
-ghost use Rattle.lb_model.specs.Kept.{Kept, changed, saved, undone};
+ghost use Rattle.lb_values.specs.Kept.{Kept, changed, saved, undone};
 ghost use Rattle.lb_model.specs.Ranges.{fits, is_of_state, is_settable};
 ghost use Rattle.lb_model.specs.Settings.{Setting, Notes, look, noted, noted_change, noted_save, noted_undo};
 

@@ -1,13 +1,17 @@
 //! Laws of the definitions.
-ghost use Rattle.std.specs.Prelude.{◌≡◌, ℕ, List, Contains};
+ghost use Rattle.std.specs.Prelude.{◌≡◌, ℕ, ℤ, List, Some, Contains, true};
 ghost use Rattle.lb_rows.specs.declared.command.Command.{Command};
 ghost use Rattle.lb_rows.specs.declared.parameter.Parameter.{Parameter};
 ghost use Rattle.lb_rows.specs.Commands.{command_name, command_names};
 ghost use Rattle.lb_rows.specs.Parameters.{parameter_name, parameter_names};
+ghost use Rattle.lb_values.specs.declared.cell.Cell.{Cell};
 ghost use Rattle.lb_values.specs.declared.cell.Cell.TheVariants.{Word};
 ghost use Rattle.lb_values.specs.declared.meaning.Meaning.TheVariants.{Row, Register};
 ghost use Rattle.lb_values.specs.declared.meaning.Register.TheVariants.{Par};
+ghost use Rattle.lb_values.specs.declared.value.Value.{Value as Held};
 ghost use Rattle.lb_values.specs.declared.value.Value.TheVariants.{Absent, Meaning};
+ghost use Rattle.lb_model.specs.HeldNumbers.{held_of, number_in};
+ghost use Rattle.lb_model.specs.Ranges.{fits};
 ghost use Rattle.lb_model.specs.Settings.{IsState};
 ghost use Rattle.lb_model.specs.StartState.{start};
 
@@ -27,3 +31,9 @@ pub fn start_means_the_rows()
     names_and_rows();
     each_name_in_one_table();
 }
+
+/// What a cell holds once it is set to a number is in its range, and is that number.
+pub fn numbers_are_held()
+    ensures fits { (cell : Cell) (n : ℤ) (v : Held) → held_of cell n ≡ Some v → fits cell v ≡ true }
+    ensures number { (cell : Cell) (n : ℤ) (v : Held) → held_of cell n ≡ Some v → number_in v ≡ Some n }
+{}

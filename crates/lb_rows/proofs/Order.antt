@@ -5,7 +5,20 @@ use Rattle.std.specs.Cmp.Lexicographic.{slice_cmp, nat_list_cmp_total}
 use Rattle.std.specs.List.{AllByRecursion}
 use Rattle.std.specs.List.Sorted.{IsStrictlySortedBy}
 use Rattle.std.proofs.lemmas.Map.Keys.{Less-from_sorted}
-use Rattle.lb_rows.specs.Names.{is_ascending}
+
+-- whether a name comes before another in the order of their bytes, as in a dictionary
+abbrev pub is_before : List ℕ → List ℕ → Bool
+is_before x y = is_lt (slice_cmp nat_cmp x y)
+
+-- whether a name comes before the first of a table, if that has one
+abbrev pub is_before_first : List ℕ → List (List ℕ) → Bool
+is_before_first x [] = true
+is_before_first x (y ∷ rows) = is_before x y
+
+-- whether each name comes before the next
+abbrev pub is_ascending : List (List ℕ) → Bool
+is_ascending [] = true
+is_ascending (x ∷ rows) = is_before_first x rows && is_ascending rows
 
 abbrev pub text_cmp : List ℕ → List ℕ → Ordering
 text_cmp = slice_cmp nat_cmp

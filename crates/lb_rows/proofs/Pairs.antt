@@ -3,7 +3,8 @@ use Rattle.std.proofs.Common.{◌≡◌, ◌↔◌, ℕ, ◌<◌, List, [], leng
 use Rattle.std.proofs.lemmas.List.{get_or-map}
 use Rattle.std.proofs.lemmas.Option.{get_or_from_slice_get}
 use Rattle.std.proofs.Math.ListN.{length-map}
-use Rattle.lb_rows.specs.Names.{place_of, is_ascending}
+use Rattle.lb_rows.specs.Names.{place_of}
+use Rattle.lb_rows.proofs.Order.{is_ascending}
 use Rattle.lb_rows.proofs.Places.{place_holds, found}
 use Rattle.lb_rows.proofs.Search.{place_among}
 

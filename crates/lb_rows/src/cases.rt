@@ -1,5 +1,5 @@
-//! What the cases of a table write. A table's cases are the rules `"name" => Case,` in the order of the names' bytes,
-//! each with `: Kind` after it where the cases have kinds; before them stands in brackets what else a macro is given.
+//! What the cases of a table write. A table's cases are the rules `"name" => Case,`, each with `: Kind` after it where
+//! the cases have kinds; before them stands in brackets what else a macro is given.
 
 /// The names of the cases, in order: an array of texts.
 #[macro_export]
@@ -30,5 +30,13 @@ macro_rules! case_name {
 macro_rules! case_kind {
     ([$of:ident $kinds:ident $value:expr] $($name:literal => $case:ident: $kind:ident,)*) => {
         match $value { $($of::$case => $kinds::$kind),* }
+    };
+}
+
+/// How many cases there are.
+#[macro_export]
+macro_rules! case_count {
+    ([] $($name:literal => $case:ident $(: $kind:ident)?,)*) => {
+        [$($name),*].len()
     };
 }

@@ -1,14 +1,14 @@
 //! The commands: control sequences that have a meaning of their own at the start. They are primitives of TeX
 //! (TeXbook, chapters 20, 24 and 25), commands of LaTeX that are built in (LaTeX, appendix C), and those with an
 //! `@`, which the kernel text uses and which are this typesetter's own.
-ghost use Rattle.std.specs.Prelude.{◌≡◌, ◌↔◌, ◌<◌, Some, slice_get};
+ghost use Rattle.std.specs.Prelude.{◌≡◌, ◌↔◌, ◌<◌, Some, length, slice_get};
 ghost use Rattle.lb_rows.specs.Commands.{command_name, command_names, command_rows};
 
 use crate::rows::Rows;
-use crate::{case_name, case_names, cases};
+use crate::{case_count, case_name, case_names, cases};
 
-/// The cases of the table. A row is added here, in the order of the names' bytes, and stands in no other list of
-/// names; the enum below has its variant.
+/// The cases of the table. A row is added here, and in no other list of names; the enum below has its
+/// variant.
 macro_rules! command_rows {
     ($write:ident $($given:tt)*) => {
         $write! {
@@ -158,6 +158,9 @@ macro_rules! command_rows {
         }
     };
 }
+
+/// How many commands there are.
+pub const COMMANDS: usize = command_rows!(case_count);
 
 /// A command. `\\` is `LineBreak`, `\ ` `ControlSpace`, `\/` `ItalicCorrection`, `\-` `DiscretionaryHyphen`.
 #[derive(Clone, Copy, PartialEq, Eq)]
@@ -316,16 +319,16 @@ impl Command {
     }
 
     /// The command of a row, by its place in the table, counted from 0.
+    #[tactic(auto, unfolding(crate::specs::Commands::command_rows))]
     pub fn at(place: usize) -> Command
-        requires { place < 142 }
+        requires { place < length command_rows }
         ensures { slice_get command_rows place ≡ Some result }
     {
-        static ROWS: [Command; 142] = command_rows!(cases Command);
+        static ROWS: [Command; COMMANDS] = command_rows!(cases Command);
         ROWS[place]
     }
 
-    /// The command with a name; none where no command has it. It searches by halves, so a name that no command has
-    /// costs what one costs that a command has.
+    /// The command with a name; none where no command has it.
     pub fn named(name: &[u8]) -> Option<Command>
         ensures { (command : Command) → (result ≡ Some command) ↔ (name.now ≡ command_name command) }
     {
@@ -336,9 +339,9 @@ impl Command {
 
 /// The table of the commands' names, without the escape character.
 #[tactic(auto, unfolding(crate::specs::Commands::command_name, crate::specs::Commands::command_rows))]
-pub fn commands() -> Rows<142>
+pub fn commands() -> Rows<COMMANDS>
     ensures { result ≡ command_names }
 {
-    static NAMES: [&str; 142] = command_rows!(case_names);
+    static NAMES: [&str; COMMANDS] = command_rows!(case_names);
     Rows::new(&NAMES)
 }

@@ -9,7 +9,7 @@ pub mod parameter;
 pub mod refusal;
 pub mod rows;
 
-pub use command::{Command, commands};
-pub use parameter::{Parameter, ParameterKind, parameters};
-pub use refusal::{Refusal, refused};
+pub use command::{COMMANDS, Command, commands};
+pub use parameter::{PARAMETERS, Parameter, ParameterKind, parameters};
+pub use refusal::{REFUSED, Refusal, refused};
 pub use rows::Rows;

@@ -1,13 +1,13 @@
 //! The parameters: numbers, dimensions and glue that have a name of their own at the start (TeXbook, chapter 24, and
 //! for the layout of pages LaTeX, section C.5).
-ghost use Rattle.std.specs.Prelude.{◌≡◌, ◌↔◌, ◌<◌, Some, slice_get};
+ghost use Rattle.std.specs.Prelude.{◌≡◌, ◌↔◌, ◌<◌, Some, length, slice_get};
 ghost use Rattle.lb_rows.specs.Parameters.{parameter_kind, parameter_name, parameter_names, parameter_rows};
 
 use crate::rows::Rows;
-use crate::{case_kind, case_name, case_names, cases};
+use crate::{case_count, case_kind, case_name, case_names, cases};
 
-/// The cases of the table, each with its kind. A row is added here, in the order of the names' bytes, and stands in
-/// no other list of names; the enum below has its variant.
+/// The cases of the table, each with its kind. A row is added here, and in no other list of names; the enum below has
+/// its variant.
 macro_rules! parameter_rows {
     ($write:ident $($given:tt)*) => {
         $write! {
@@ -58,6 +58,9 @@ pub enum ParameterKind {
     Dimension,
     Glue,
 }
+
+/// How many parameters there are.
+pub const PARAMETERS: usize = parameter_rows!(case_count);
 
 /// A parameter.
 #[derive(Clone, Copy, PartialEq, Eq, PartialOrd, Ord, Hash)]
@@ -117,11 +120,12 @@ impl Parameter {
     }
 
     /// The parameter of a row, by its place in the table, counted from 0.
+    #[tactic(auto, unfolding(crate::specs::Parameters::parameter_rows))]
     pub fn at(place: usize) -> Parameter
-        requires { place < 35 }
+        requires { place < length parameter_rows }
         ensures { slice_get parameter_rows place ≡ Some result }
     {
-        static ROWS: [Parameter; 35] = parameter_rows!(cases Parameter);
+        static ROWS: [Parameter; PARAMETERS] = parameter_rows!(cases Parameter);
         ROWS[place]
     }
 
@@ -136,9 +140,9 @@ impl Parameter {
 
 /// The table of the parameters' names, without the escape character.
 #[tactic(auto, unfolding(crate::specs::Parameters::parameter_name, crate::specs::Parameters::parameter_rows))]
-pub fn parameters() -> Rows<35>
+pub fn parameters() -> Rows<PARAMETERS>
     ensures { result ≡ parameter_names }
 {
-    static NAMES: [&str; 35] = parameter_rows!(case_names);
+    static NAMES: [&str; PARAMETERS] = parameter_rows!(case_names);
     Rows::new(&NAMES)
 }

@@ -1,12 +1,12 @@
 //! The refused names: commands of TeX (TeXbook, chapters 20 to 26) and LaTeX (LaTeX, appendix C) that are left out,
 //! each with the kind of what it belongs to. They have no meaning at the start.
-ghost use Rattle.std.specs.Prelude.{◌≡◌, ◌↔◌, ◌<◌, Some, Contains, map, slice_get};
+ghost use Rattle.std.specs.Prelude.{◌≡◌, ◌↔◌, ◌<◌, Some, Contains, length, map, slice_get};
 ghost use Rattle.lb_rows.specs.Refusals.{refused_names, refused_rows};
 
 use crate::rows::Rows;
-use crate::{case_names, cases};
+use crate::{case_count, case_names, cases};
 
-/// The cases of the table, each a name with its kind. A row is added here, in the order of the names' bytes.
+/// The cases of the table, each a name with its kind. A row is added here.
 macro_rules! refused_rows {
     ($write:ident $($given:tt)*) => {
         $write! {
@@ -54,6 +54,9 @@ macro_rules! refused_rows {
     };
 }
 
+/// How many names are refused.
+pub const REFUSED: usize = refused_rows!(case_count);
+
 /// Why a name is refused: it belongs to mathematics, to alignments, to packages, or is another command that is
 /// left out.
 #[derive(Clone, Copy, PartialEq, Eq)]
@@ -66,10 +69,10 @@ pub enum Refusal {
 
 /// The table of the refused names, without the escape character.
 #[tactic(auto, unfolding(crate::specs::Refusals::refused_rows))]
-pub fn refused() -> Rows<39>
+pub fn refused() -> Rows<REFUSED>
     ensures { result ≡ refused_names }
 {
-    static NAMES: [&str; 39] = refused_rows!(case_names);
+    static NAMES: [&str; REFUSED] = refused_rows!(case_names);
     Rows::new(&NAMES)
 }
 
@@ -84,10 +87,11 @@ impl Refusal {
 }
 
 /// The kind of a row, by its place in the table.
+#[tactic(auto, unfolding(crate::specs::Refusals::refused_rows))]
 fn kind_at(place: usize) -> Refusal
-    requires { place < 39 }
+    requires { place < length refused_rows }
     ensures { slice_get (map (λ row. row.1) refused_rows) place ≡ Some result }
 {
-    static KINDS: [Refusal; 39] = refused_rows!(cases Refusal);
+    static KINDS: [Refusal; REFUSED] = refused_rows!(cases Refusal);
     KINDS[place]
 }

@@ -7,7 +7,7 @@ use Rattle.lb_base.specs.declared.token.Category.{Category}
 use Rattle.lb_base.specs.declared.token.Tok.TheVariants.{Word}
 use Rattle.lb_model.specs.declared.reading.Read.{Read}
 use Rattle.lb_model.specs.declared.reading.Read.TheVariants as read
-use Rattle.lb_model.specs.Kept.{Kept}
+use Rattle.lb_values.specs.Kept.{Kept}
 use Rattle.lb_values.specs.declared.cell.Cell.TheVariants.{Cat}
 use Rattle.lb_values.specs.declared.value.Value.{Value}
 use Rattle.lb_model.specs.Settings.{Setting, Notes, noted}

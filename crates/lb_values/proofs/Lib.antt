@@ -1,1 +1,2 @@
 pub mod SameCells
+pub mod KeptLemmas

@@ -37,6 +37,17 @@ impl<T> Shared<T> {
     {
         &self.value
     }
+
+    /// The value itself where nobody else holds it, and else what was given. Takes no memory.
+    pub fn into_value(self) -> Result<T, Shared<T>>
+        ensures ok { IfOk result (λ value. value ≡ self) }
+        ensures err { IfErr result (λ shared. shared ≡ self) }
+    {
+        match Arc::try_unwrap(self.value) {
+            Ok(value) => Ok(value),
+            Err(value) => Err(Shared { value }),
+        }
+    }
 }
 
 impl<T: Drop> Clone for Shared<T> {

@@ -1,15 +1,15 @@
 //! The values of codes at the start (TeXbook, chapters 7 and 12, and appendix B).
 ghost use Rattle.std.specs.Prelude.{◌≡◌, OnOk, pos};
 ghost use Rattle.lb_model.specs.StartState.{is_lower, is_upper, start_category, start_lower, start_space_factor, start_upper};
-ghost use Rattle.lb_cells.specs.CellMap.{at};
+ghost use Rattle.lb_maps.specs.CellMap.{at};
 ghost use Rattle.lb_cells.specs.StartEntries.{code_over, codes_below};
 
-use crate::overlays::Writes;
 use lb_base::{Category, NoMemory};
+use lb_maps::CellMap;
 use lb_values::{Cell, Value};
 
 /// Gives each code its category, its forms in lower and upper case, and its space factor.
-pub fn fill_codes(entries: &mut Writes) -> Result<(), NoMemory>
+pub fn fill_codes(entries: &mut CellMap<Value>) -> Result<(), NoMemory>
     ensures { OnOk result (at entries.new ≡ codes_below 256 (at entries.old)) }
 {
     for code in 0..=255 {
@@ -19,7 +19,7 @@ pub fn fill_codes(entries: &mut Writes) -> Result<(), NoMemory>
 }
 
 // The four values of one code.
-fn fill_code(entries: &mut Writes, code: u8) -> Result<(), NoMemory>
+fn fill_code(entries: &mut CellMap<Value>, code: u8) -> Result<(), NoMemory>
     ensures { OnOk result (at entries.new ≡ code_over code (at entries.old)) }
 {
     entries.insert(Cell::Cat(code), Value::Category(category(code)))?;

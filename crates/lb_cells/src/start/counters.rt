@@ -2,18 +2,18 @@
 ghost use Rattle.std.specs.Prelude.{◌≡◌, ◌<◌, IfOk, OnOk, Some, length, map, slice_get};
 ghost use Rattle.lb_values.specs.declared.cell.Cell.TheVariants as cell;
 ghost use Rattle.lb_values.specs.declared.value.Value.TheVariants as value;
-ghost use Rattle.lb_model.specs.Kept.{put};
+ghost use Rattle.lb_values.specs.Kept.{put};
 ghost use Rattle.lb_model.specs.StartLists.{checkpoint_names, start_counters, start_resets};
-ghost use Rattle.lb_cells.specs.CellMap.{at};
+ghost use Rattle.lb_maps.specs.CellMap.{at};
 ghost use Rattle.lb_cells.specs.StartEntries.{checkpoint_over, counters_over, resets_over};
 
-use crate::overlays::Writes;
 use lb_base::{Name, NameList, NoMemory};
+use lb_maps::CellMap;
 use lb_values::{Cell, Shared, Value};
 use std::alloc::Global;
 
 /// Gives each counter its number.
-pub fn fill_counters(alloc: Global, entries: &mut Writes) -> Result<(), NoMemory>
+pub fn fill_counters(alloc: Global, entries: &mut CellMap<Value>) -> Result<(), NoMemory>
     ensures { OnOk result (at entries.new ≡ counters_over (at entries.old)) }
 {
     let mut place = 19;
@@ -28,7 +28,7 @@ pub fn fill_counters(alloc: Global, entries: &mut Writes) -> Result<(), NoMemory
 // Gives one counter its number.
 fn fill_counter(
     alloc: Global,
-    entries: &mut Writes,
+    entries: &mut CellMap<Value>,
     name: &str,
     number: i32,
 ) -> Result<(), NoMemory>
@@ -78,7 +78,7 @@ fn counters() -> &'static [(&'static str, i32)]
 }
 
 /// Gives the list of a checkpoint's counters.
-pub fn fill_checkpoint_names(alloc: Global, entries: &mut Writes) -> Result<(), NoMemory>
+pub fn fill_checkpoint_names(alloc: Global, entries: &mut CellMap<Value>) -> Result<(), NoMemory>
     ensures { OnOk result (at entries.new ≡ checkpoint_over (at entries.old)) }
 {
     let names = Shared::new(alloc, checkpoint_list(alloc)?)?;
@@ -98,7 +98,7 @@ fn checkpoint_list(alloc: Global) -> Result<NameList, NoMemory>
 }
 
 /// Gives each counter that has them the counters that a step of it resets.
-pub fn fill_resets(alloc: Global, entries: &mut Writes) -> Result<(), NoMemory>
+pub fn fill_resets(alloc: Global, entries: &mut CellMap<Value>) -> Result<(), NoMemory>
     ensures { OnOk result (at entries.new ≡ resets_over (at entries.old)) }
 {
     let mut place = 5;
@@ -140,7 +140,7 @@ fn resets() -> &'static [(&'static str, &'static [&'static str])]
 // Gives one counter those that a step of it resets.
 fn fill_reset(
     alloc: Global,
-    entries: &mut Writes,
+    entries: &mut CellMap<Value>,
     name: &str,
     within: &[&str],
 ) -> Result<(), NoMemory>

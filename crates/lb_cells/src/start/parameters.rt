@@ -4,19 +4,19 @@ ghost use Rattle.std.specs.Prelude.{◌≡◌, ◌<◌, OnOk};
 ghost use Rattle.lb_rows.specs.declared.parameter.Parameter.TheVariants.{ParFillSkip};
 ghost use Rattle.lb_values.specs.declared.value.Value.TheVariants as value;
 ghost use Rattle.lb_model.specs.StartState.{points, start_parameter, stretching};
-ghost use Rattle.lb_cells.specs.CellMap.{at};
+ghost use Rattle.lb_maps.specs.CellMap.{at};
 ghost use Rattle.lb_cells.specs.StartEntries.{parameters_over};
 
-use crate::overlays::Writes;
 use lb_base::{Glue, NoMemory, Order};
-use lb_rows::Parameter;
+use lb_maps::CellMap;
+use lb_rows::{PARAMETERS, Parameter};
 use lb_values::{Cell, Value};
 
 /// Gives each parameter its value. Those of the date have none.
-pub fn fill_parameters(entries: &mut Writes) -> Result<(), NoMemory>
+pub fn fill_parameters(entries: &mut CellMap<Value>) -> Result<(), NoMemory>
     ensures { OnOk result (at entries.new ≡ parameters_over (at entries.old)) }
 {
-    let mut place = 35;
+    let mut place = PARAMETERS;
     while place > 0 {
         place -= 1;
         let parameter = Parameter::at(place);

@@ -4,21 +4,21 @@ ghost use Rattle.lb_rows.specs.Commands.{command_name};
 ghost use Rattle.lb_rows.specs.Parameters.{parameter_name};
 ghost use Rattle.lb_values.specs.declared.cell.Cell.TheVariants as cell;
 ghost use Rattle.lb_values.specs.declared.value.Value.TheVariants as value;
-ghost use Rattle.lb_model.specs.Kept.{put};
-ghost use Rattle.lb_cells.specs.CellMap.{at};
+ghost use Rattle.lb_values.specs.Kept.{put};
+ghost use Rattle.lb_maps.specs.CellMap.{at};
 ghost use Rattle.lb_cells.specs.StartEntries.{commands_over, parameter_words_over};
 
-use crate::overlays::Writes;
 use lb_base::{Name, NoMemory};
-use lb_rows::{Command, Parameter};
+use lb_maps::CellMap;
+use lb_rows::{COMMANDS, Command, PARAMETERS, Parameter};
 use lb_values::{Cell, Meaning, Register, Value};
 use std::alloc::Global;
 
 /// Gives each command's name its meaning.
-pub fn fill_commands(alloc: Global, entries: &mut Writes) -> Result<(), NoMemory>
+pub fn fill_commands(alloc: Global, entries: &mut CellMap<Value>) -> Result<(), NoMemory>
     ensures { OnOk result (at entries.new ≡ commands_over (at entries.old)) }
 {
-    let mut place = 142;
+    let mut place = COMMANDS;
     while place > 0 {
         place -= 1;
         let command = Command::at(place);
@@ -28,10 +28,10 @@ pub fn fill_commands(alloc: Global, entries: &mut Writes) -> Result<(), NoMemory
 }
 
 /// Gives each parameter's name its meaning.
-pub fn fill_parameter_words(alloc: Global, entries: &mut Writes) -> Result<(), NoMemory>
+pub fn fill_parameter_words(alloc: Global, entries: &mut CellMap<Value>) -> Result<(), NoMemory>
     ensures { OnOk result (at entries.new ≡ parameter_words_over (at entries.old)) }
 {
-    let mut place = 35;
+    let mut place = PARAMETERS;
     while place > 0 {
         place -= 1;
         let parameter = Parameter::at(place);
@@ -44,7 +44,7 @@ pub fn fill_parameter_words(alloc: Global, entries: &mut Writes) -> Result<(), N
 // Gives one control sequence its meaning.
 fn fill_word(
     alloc: Global,
-    entries: &mut Writes,
+    entries: &mut CellMap<Value>,
     name: &str,
     meaning: Meaning,
 ) -> Result<(), NoMemory>

@@ -1,35 +1,30 @@
-use Rattle.std.proofs.Common.{◌≡◌, ◌∙◌, ◌++◌, ◌∷◌, [], ap, sym}
+use Rattle.std.proofs.Common.{◌≡◌, ◌∙◌, ◌++◌, ◌∷◌, [], Some, None, ap, sym}
 use Rattle.std.specs.Prelude.{is_some}
-use Rattle.lb_values.specs.declared.cell.Cell.{Cell}
-use Rattle.lb_values.specs.declared.value.Value.{Value}
-use Rattle.lb_model.specs.Settings.{laid_over}
-use Rattle.lb_cells.specs.CellMap.{at}
-use Rattle.lb_cells.specs.StateCells.{state_of}
-use Rattle.lb_cells.proofs.Overlaid.{last_there, keeps-more, state-put, laid-snoc, laid-none}
-use Rattle.lb_cells.proofs.Saved.{keeps-put}
+use Rattle.lb_values.specs.Kept.{put}
+use Rattle.lb_maps.specs.CellMap.{at, held_now}
+use Rattle.lb_maps.proofs.Tabled.{at-snoc}
+use Rattle.lb_maps.proofs.Entries.{keeps-more, last_there}
+use Rattle.lb_cells.specs.StateCells.{written_over}
+use Rattle.lb_cells.proofs.Overlaid.{nothing-over, write-taken}
 use Rattle.lb_cells.proofs.overlays.overwrite_all.Goals as goal
 
-pub overwrite-requires : goal.overwrite-requires
-overwrite-requires c =
-    let popped : c.loop-cell.writes ≡ c.pop.new.self ++ (c.in-Some.cell, c.in-Some.value) ∷ [] = c.in-Some.ensures in
-    c.loop-cell.invariant.there c.in-Some.cell (ap (λ w. is_some (at w c.in-Some.cell)) popped ∙ last_there c.pop.new.self (c.in-Some.cell, c.in-Some.value))
+pub write_one-requires : goal.write_one-requires
+write_one-requires c =
+    c.loop-cell.invariant.there c.in-Some.cell (ap (λ w. is_some (at w c.in-Some.cell)) c.in-Some.ensures.last ∙ last_there c.pop.new.self (c.in-Some.cell, c.in-Some.write))
 
 pub loop-cell-preserved : goal.loop-cell-preserved
 loop-cell-preserved c =
-    let entry : Cell × Value = (c.in-Some.cell, c.in-Some.value) in
     let left = c.pop.new.self in
-    let old = c.loop-cell.cells.entries in
-    let new = c.overwrite.new.self.entries in
-    let popped : c.loop-cell.writes ≡ left ++ entry ∷ [] = c.in-Some.ensures in record {
-      there = λ q h. keeps-put old new entry.0 entry.1 c.overwrite.ensures.entries q (c.loop-cell.invariant.there q (ap (λ w. is_some (at w q)) popped ∙ keeps-more left entry q h));
-      now = ap (laid_over (at left)) (state-put old new entry.0 entry.1 c.overwrite.ensures.entries)
-          ∙ sym (laid-snoc left entry (state_of old))
-          ∙ ap (λ w. laid_over (at w) (state_of old)) (sym popped)
-          ∙ c.loop-cell.invariant.now;
-      saves = c.overwrite.ensures.saves ∙ c.loop-cell.invariant.saves;
+    let all = c.loop-cell.writes in
+    let popped : all ≡ left ++ (c.in-Some.cell, c.in-Some.write) ∷ [] = c.in-Some.ensures.last in
+    let is : at all ≡ put c.in-Some.cell (Some c.in-Some.write) (at left) = ap at popped ∙ at-snoc left (c.in-Some.cell, c.in-Some.write) c.in-Some.ensures.alone in record {
+      there = λ q h. c.write_one.ensures.keeps q (c.loop-cell.invariant.there q (ap (λ w. is_some (at w q)) popped ∙ keeps-more left (c.in-Some.cell, c.in-Some.write) q h));
+      now = write-taken all left c.in-Some.cell c.in-Some.write c.loop-cell.over.entries c.write_one.new.over.entries c.in-Some.ensures.alone is c.write_one.ensures.now ∙ c.loop-cell.invariant.now;
+      saves = c.write_one.ensures.saves ∙ c.loop-cell.invariant.saves;
     }
 
 pub returns-clause-now : goal.returns-clause-now
 returns-clause-now c =
-    let empty : c.loop-cell.writes ≡ [] = c.in_default.ensures.0 in
-    sym (ap (λ w. laid_over (at w) (state_of c.loop-cell.cells.entries)) empty ∙ laid-none (state_of c.loop-cell.cells.entries)) ∙ c.loop-cell.invariant.now
+    let old = c.loop-cell.over.entries in
+    let empty : c.loop-cell.writes ≡ [] = c.in_default.ensures.last.0 in
+    sym (ap (λ w. written_over (held_now None w) (held_now None old)) empty ∙ nothing-over old) ∙ c.loop-cell.invariant.now

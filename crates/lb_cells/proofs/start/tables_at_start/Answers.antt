@@ -1,5 +1,5 @@
 use Rattle.std.proofs.Common.{◌∙◌, ap}
-use Rattle.lb_cells.specs.CellMap.{at}
+use Rattle.lb_maps.specs.CellMap.{at}
 use Rattle.lb_cells.specs.StartEntries.{resets_over, counters_over, commands_over, parameter_words_over, parameters_over}
 use Rattle.lb_cells.proofs.StartSteps.{at-none}
 use Rattle.lb_cells.proofs.start.tables_at_start.Goals as goal

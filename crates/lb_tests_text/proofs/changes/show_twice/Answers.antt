@@ -1,5 +1,5 @@
 use Rattle.std.proofs.Common.{◌≡◌, ◌∙◌, ◌+◌, ◌<◌, length, ap, sym, subst, arith}
-use Rattle.lb_model.specs.Kept.{saved}
+use Rattle.lb_values.specs.Kept.{saved}
 use Rattle.lb_tests_text.proofs.Undoing.{one-stands}
 use Rattle.lb_tests_text.proofs.changes.show_twice.Goals as goal
 

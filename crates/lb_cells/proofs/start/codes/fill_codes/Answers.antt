@@ -1,5 +1,5 @@
 use Rattle.std.proofs.Common.{◌≡◌, ◌∙◌, ◌+◌, ap, arith}
-use Rattle.lb_cells.specs.CellMap.{at}
+use Rattle.lb_maps.specs.CellMap.{at}
 use Rattle.lb_cells.specs.StartEntries.{code_over, codes_below}
 use Rattle.lb_cells.proofs.StartSteps.{codes-next}
 use Rattle.lb_cells.proofs.start.codes.fill_codes.Goals as goal

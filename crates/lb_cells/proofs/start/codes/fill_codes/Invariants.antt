@@ -1,5 +1,5 @@
 use Rattle.std.proofs.Common.{◌≡◌}
-use Rattle.lb_cells.specs.CellMap.{at}
+use Rattle.lb_maps.specs.CellMap.{at}
 use Rattle.lb_cells.specs.StartEntries.{codes_below}
 use Rattle.lb_cells.proofs.start.codes.fill_codes.Given as goal
 

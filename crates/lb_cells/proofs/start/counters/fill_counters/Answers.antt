@@ -1,9 +1,9 @@
 use Rattle.std.proofs.Common.{◌≡◌, ◌∙◌, Some, ap, arith, of_z, refl, rules, to_z, w32}
 use Rattle.lb_values.specs.declared.cell.Cell.TheVariants as cell
 use Rattle.lb_values.specs.declared.value.Value.TheVariants as value
-use Rattle.lb_model.specs.Kept.{put}
+use Rattle.lb_values.specs.Kept.{put}
 use Rattle.lb_model.specs.StartLists.{start_counters}
-use Rattle.lb_cells.specs.CellMap.{at}
+use Rattle.lb_maps.specs.CellMap.{at}
 use Rattle.lb_cells.proofs.StartSteps.{rows_over-back}
 use Rattle.lb_cells.proofs.start.counters.fill_counters.Goals as goal
 

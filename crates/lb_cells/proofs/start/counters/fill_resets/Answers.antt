@@ -2,7 +2,7 @@ use Rattle.std.proofs.Common.{◌∙◌, arith, map, refl}
 use Rattle.lb_values.specs.declared.cell.Cell.TheVariants as cell
 use Rattle.lb_values.specs.declared.value.Value.TheVariants as value
 use Rattle.lb_model.specs.StartLists.{start_resets}
-use Rattle.lb_cells.specs.CellMap.{at}
+use Rattle.lb_maps.specs.CellMap.{at}
 use Rattle.lb_cells.proofs.StartSteps.{rows_over-back}
 use Rattle.lb_cells.proofs.start.counters.fill_resets.Goals as goal
 

@@ -1,5 +1,5 @@
 use Rattle.std.proofs.Common.{◌≡◌, ◌≤◌, drop}
-use Rattle.lb_cells.specs.CellMap.{at}
+use Rattle.lb_maps.specs.CellMap.{at}
 use Rattle.lb_cells.specs.StartEntries.{rows_over}
 use Rattle.lb_rows.specs.Parameters.{parameter_name, parameter_rows}
 use Rattle.lb_values.specs.declared.cell.Cell.TheVariants as cell

@@ -1,5 +1,6 @@
 use Rattle.std.proofs.Common.{◌≡◌, sym, ◌∙◌, ap, refl, Some, None, true}
-use Rattle.lb_rows.specs.Names.{place_of, is_ascending}
+use Rattle.lb_rows.specs.Names.{place_of}
+use Rattle.lb_rows.proofs.Order.{is_ascending}
 use Rattle.lb_rows.specs.Refusals.{refused_names, refused_rows}
 use Rattle.lb_rows.proofs.Pairs.{refused_some, refused_none}
 use Rattle.lb_rows.proofs.refusal.Refusal.of.Goals as goal

@@ -6,6 +6,6 @@ pub returns : goal.returns
 returns g c =
     let key = λ (row : Bor (List ℕ)). row.now in
     let refs = c.self.inside.names.now in
-    let within : c.args.place < length refs = omega (arith, c.self.invariant.0) in
+    let within : c.args.place < length refs = omega (arith, c.self.invariant) in
     let past : Bor (List ℕ) = record { ref_ptr = (0, 0); now = [] } in
     ap (λ rows. slice_get rows c.args.place) (sym c.self.view_is) ∙ slice_get-keys key refs c.args.place past within

@@ -1,6 +1,0 @@
-use Rattle.lb_cells.specs.Marked.{standing}
-use Rattle.lb_cells.proofs.Saved.{AllSaved-put}
-use Rattle.lb_cells.proofs.kept_map.KeptMap.overwrite.Goals as goal
-
-pub invariant_of-self : goal.invariant_of-self
-invariant_of-self g c = AllSaved-put c.self.inside.map c.overwrite.new.self (standing c.self.inside.saves) c.args.cell c.args.value c.overwrite.ensures c.self.invariant

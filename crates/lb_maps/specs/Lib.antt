@@ -1,0 +1,3 @@
+pub mod CellMap
+pub mod Marked
+pub mod Slots
