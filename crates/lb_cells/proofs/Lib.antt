@@ -1,3 +1,4 @@
+pub mod BetweenThreads
 pub mod Overlaid
 pub mod StartMeaning
 pub mod StartSteps

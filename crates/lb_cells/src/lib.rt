@@ -1,6 +1,7 @@
 //! States, and cells over one world and one state.
 #![tactic(auto)]
 
+pub mod crossing;
 mod direct;
 mod overlays;
 mod start;

@@ -1,18 +1,14 @@
 -- What a font is loaded as, in a world and a state.
-use Rattle.std.specs.Prelude.{◌≡◌, ⊤, ℕ, List, [], Option, None, Some, unwrap_or, is_some, IsSomeAnd, IsTrue, ℤ}
-use Rattle.std.specs.Option.{option_map}
+use Rattle.std.specs.Prelude.{◌≡◌, ⊤, ℕ, List, [], Option, None, unwrap_or, is_some, IsTrue, ℤ, pos, ◌<ℤ◌}
 use Rattle.lb_base.specs.declared.fault.Kind.TheVariants.{FontMissing, BadTfm, BadCode}
 use Rattle.lb_base.specs.declared.fault.Stop.{Stop}
 use Rattle.lb_base.specs.declared.fault.Stop.TheVariants.{Memory, Fault, At}
 use Rattle.lb_values.specs.declared.cell.Cell.TheVariants.{Prefix, File}
-use Rattle.lb_values.specs.declared.value.Value.TheVariants.{Absent}
 use Rattle.lb_model.specs.FontTable.{font_file, font_name}
 use Rattle.lb_model.specs.Kinds.{name_of, text_of}
 use Rattle.lb_model.specs.Settings.{State, Notes, look, noted}
 use Rattle.lb_model.specs.declared.world.World.{World}
-use Rattle.lb_model_paper.specs.FontFiles.{font_of}
-use Rattle.lb_model_paper.specs.FontRules.{first_broken}
-use Rattle.lb_model_paper.specs.Fonts.{FontData, named}
+use Rattle.lb_model_paper.specs.FoundFonts.{FontFound, Broken, Missing, font_found}
 use Rattle.lb_fonts.specs.declared.name.FontName.{FontName}
 
 -- what stands before the names of font files
@@ -27,42 +23,30 @@ file_of w s name = font_file (prefix_of w s) name.name
 abbrev pub bytes_of : World → State → FontName → Option (List ℕ)
 bytes_of w s name = text_of (look w s (File (file_of w s name)))
 
--- the first word of a TFM file that breaks the first rule that is broken
-abbrev pub broken_word : List ℕ → Option ℕ
-broken_word bytes = option_map (λ broken. broken.1) (first_broken bytes)
-
--- There is a file, it breaks no rule of the format, and it gives this font under the name.
-abbrev pub IsLoaded : Option (List ℕ) → FontName → FontData → Type 0
-IsLoaded file name font = IsSomeAnd file (λ bytes. (first_broken bytes ≡ None) × (font ≡ named (font_of bytes name.size) name.name))
+-- the font of a name at its size, in a world and a state
+abbrev pub font_in : World → State → FontName → FontFound
+font_in w s name = font_found (bytes_of w s name) name.name name.size
 
 -- what is noted: the cell of what stands before font files, and then that of the file
 abbrev pub noted_by_load : World → State → FontName → Notes → Notes
 noted_by_load w s name n = noted (File (file_of w s name)) (noted Prefix n)
 
--- A file of these bytes and this name is refused: for want of memory, or because it breaks a rule of the format. The line of the fault is
--- the word that breaks it.
-abbrev pub IsRefusedFile : List ℕ → List ℕ → Stop → Type 0
-IsRefusedFile bytes file Memory = ⊤
-IsRefusedFile bytes file (Fault kind) = ⊥
-IsRefusedFile bytes file (At fault) = (fault.kind ≡ BadTfm) × (fault.file ≡ file) × (broken_word bytes ≡ Some fault.line)
-
--- A font is not loaded: for want of memory, because there is no file, or because the file breaks a rule.
-abbrev pub IsRefused : World → State → FontName → Stop → Type 0
-IsRefused w s name Memory = ⊤
-IsRefused w s name (Fault kind) = look w s (File (file_of w s name)) ≡ Absent
-IsRefused w s name (At fault) = (fault.file ≡ file_of w s name) × IsSomeAnd (bytes_of w s name) (λ bytes. broken_word bytes ≡ Some fault.line)
-
--- the stops that loading a font may have
-abbrev pub IsLoadStop : Stop → Type 0
-IsLoadStop Memory = ⊤
-IsLoadStop (Fault kind) = kind ≡ FontMissing
-IsLoadStop (At fault) = fault.kind ≡ BadTfm
+-- No font is found: for want of memory, of which nothing is said; or because there is no file, or it breaks a rule of the format. The line
+-- of the fault is then the word that breaks it.
+abbrev pub IsRefused : FontFound → List ℕ → Stop → Type 0
+IsRefused found file Memory = ⊤
+IsRefused found file (Fault kind) = (kind ≡ FontMissing) × (found ≡ Missing)
+IsRefused found file (At fault) = (fault.kind ≡ BadTfm) × (fault.file ≡ file) × (found ≡ Broken fault.line)
 
 -- it is so where the stop is not for want of memory
 abbrev pub IfFault : Stop → Type 0 → Type 0
 IfFault Memory holds = ⊤
 IfFault (Fault kind) holds = holds
 IfFault (At fault) holds = holds
+
+-- a size at which fonts are made: above 0 and below 2048 points
+abbrev pub IsFontSize : ℤ → Type 0
+IsFontSize size = (pos 0 <ℤ size) × (size <ℤ pos 134217728)
 
 -- No font is of this style and size, or there was not enough memory and one is.
 abbrev pub IsOutside : ℤ → ℤ → Stop → Type 0

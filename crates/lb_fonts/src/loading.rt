@@ -1,11 +1,12 @@
 //! Fonts that are read from their files.
-ghost use Rattle.std.specs.Prelude.{◌≡◌, ◌≤◌, ◌<ℤ◌, pos, length, IfOk, IfErr, OnOk};
+ghost use Rattle.std.specs.Prelude.{◌≡◌, ◌≤◌, ◌<ℤ◌, Some, pos, length, IfOk, IfErr, OnOk};
 ghost use Rattle.std.specs.Option.{option_map};
 ghost use Rattle.lb_values.specs.declared.cell.Cell.TheVariants.{Prefix};
 ghost use Rattle.lb_model.specs.FontTable.{font_file};
 ghost use Rattle.lb_model.specs.Settings.{Setting, noted};
-ghost use Rattle.lb_model_paper.specs.FontRules.{IsFont};
-ghost use Rattle.lb_fonts.specs.Loads.{IfFault, IsLoaded, IsLoadStop, IsRefused, IsRefusedFile, bytes_of, file_of, noted_by_load};
+ghost use Rattle.lb_model.specs.Told.{Told};
+ghost use Rattle.lb_model_paper.specs.FoundFonts.{Found, font_found};
+ghost use Rattle.lb_fonts.specs.Loads.{IfFault, IsRefused, file_of, font_in, noted_by_load};
 
 use crate::name::FontName;
 use lb_base::{Fault, Kind, Name, NoMemory, Stop};
@@ -21,32 +22,24 @@ pub fn load<C: Cells>(alloc: Global, cells: &mut C, name: &FontName) -> Result<F
     requires low { pos 0 <ℤ name.now.size }
     requires high { name.now.size <ℤ pos 134217728 }
     requires short { length name.now.name ≤ 255 }
-    ensures narrows { (p : Setting) → C.agrees cells.new p → C.agrees cells.old p }
-    ensures font { IfOk result (λ font. (p : Setting) → C.agrees cells.new p → IsLoaded (bytes_of p.world (C.meaning cells.old p).now name.now) name.now font) }
-    ensures stops { IfErr result IsLoadStop }
-    ensures refused { IfErr result (λ stop. (p : Setting) → C.agrees cells.new p → IsRefused p.world (C.meaning cells.old p).now name.now stop) }
-    ensures stays { (p : Setting) → C.agrees cells.new p → C.meaning cells.new p ≡ C.meaning cells.old p }
+    ensures told { Told C.Cells cells.new cells.old }
+    ensures font { IfOk result (λ font. (p : Setting) → C.agrees cells.new p → font_in p.world (C.meaning cells.old p).now name.now ≡ Found font) }
+    ensures refused { IfErr result (λ stop. (p : Setting) → C.agrees cells.new p → IsRefused (font_in p.world (C.meaning cells.old p).now name.now) (file_of p.world (C.meaning cells.old p).now name.now) stop) }
     ensures notes { OnOk result ((p : Setting) → C.agrees cells.new p → C.notes cells.new ≡ option_map (noted_by_load p.world (C.meaning cells.old p).now name.now) (C.notes cells.old)) }
     ensures notes_on_fault { IfErr result (λ stop. IfFault stop ((p : Setting) → C.agrees cells.new p → C.notes cells.new ≡ option_map (noted_by_load p.world (C.meaning cells.old p).now name.now) (C.notes cells.old))) }
-    ensures made { C.made cells.new ≡ C.made cells.old }
-    ensures loan { C.loan cells.new ≡ C.loan cells.old }
 {
     let file = file_name(alloc, cells, name)?;
     let Some(bytes) = reads::text(cells, Cell::File(file.clone()?))? else {
         return Err(Stop::Fault(Kind::FontMissing));
     };
-    let font = font_from(alloc, bytes.get().as_slice(), name.size, file)?;
-    Ok(font.named(name.name.clone()?))
+    font_from(alloc, bytes.get().as_slice(), name, file)
 }
 
 // The name of a font's file.
 fn file_name<C: Cells>(alloc: Global, cells: &mut C, name: &FontName) -> Result<Name, NoMemory>
-    ensures narrows { (p : Setting) → C.agrees cells.new p → C.agrees cells.old p }
+    ensures told { Told C.Cells cells.new cells.old }
     ensures value { IfOk result (λ file. (p : Setting) → C.agrees cells.new p → file_of p.world (C.meaning cells.old p).now name.now ≡ file) }
-    ensures stays { (p : Setting) → C.agrees cells.new p → C.meaning cells.new p ≡ C.meaning cells.old p }
     ensures notes { OnOk result (C.notes cells.new ≡ option_map (noted Prefix) (C.notes cells.old)) }
-    ensures made { C.made cells.new ≡ C.made cells.old }
-    ensures loan { C.loan cells.new ≡ C.loan cells.old }
 {
     match reads::name(cells, Cell::Prefix)? {
         Some(prefix) => joined(alloc, prefix.as_slice(), name.name.as_slice()),
@@ -63,15 +56,17 @@ fn joined(alloc: Global, prefix: &[u8], name: &[u8]) -> Result<Name, NoMemory>
     Name::from_slice(alloc, file.as_slice())
 }
 
-// The font of a file's bytes at a size, without a name.
-fn font_from(alloc: Global, bytes: &[u8], size: i32, file: Name) -> Result<Font, Stop>
-    requires low { pos 0 <ℤ size }
-    requires high { size <ℤ pos 134217728 }
-    ensures font { IfOk result (λ font. IsFont bytes.now size font) }
-    ensures refused { IfErr result (IsRefusedFile bytes.now file) }
+// The font of a file's bytes, under its name and at its size.
+#[tactic(auto, unfolding(lb_model_paper::specs::FoundFonts::font_found))]
+fn font_from(alloc: Global, bytes: &[u8], name: &FontName, file: Name) -> Result<Font, Stop>
+    requires low { pos 0 <ℤ name.now.size }
+    requires high { name.now.size <ℤ pos 134217728 }
+    requires short { length name.now.name ≤ 255 }
+    ensures font { IfOk result (λ font. font_found (Some bytes.now) name.now.name name.now.size ≡ Found font) }
+    ensures refused { IfErr result (IsRefused (font_found (Some bytes.now) name.now.name name.now.size) file) }
 {
-    match read(alloc, bytes, size) {
-        Ok(font) => Ok(font),
+    match read(alloc, bytes, name.size) {
+        Ok(font) => Ok(font.named(name.name.clone()?)),
         Err(TfmStop::Memory) => Err(Stop::Memory),
         Err(TfmStop::Bad { word, .. }) => Err(Stop::At(Fault {
             kind: Kind::BadTfm,

@@ -1,9 +1,9 @@
 //! The fonts of a text, each by a style and a size (Computer Modern: TeXbook, chapter 4 and appendix E), and what lies between
 //! baselines at a size (LaTeX, the size commands; classes, file size10.clo).
-ghost use Rattle.std.specs.Prelude.{◌≡◌, Some, IfOk, IfErr};
+ghost use Rattle.std.specs.Prelude.{◌≡◌, ◌≤◌, Some, length, IfOk, IfErr, IfSome};
 ghost use Rattle.std.specs.Option.{option_copied};
 ghost use Rattle.lb_model.specs.FontTable.{baselineskip_of, font_name, row, sizes, style_names};
-ghost use Rattle.lb_fonts.specs.Loads.{IsOutside};
+ghost use Rattle.lb_fonts.specs.Loads.{IsFontSize, IsOutside};
 
 use crate::name::FontName;
 use lb_base::{Kind, Name, Stop};
@@ -27,6 +27,8 @@ const SIZES: [(i32, i32); 10] = [
 /// The font of a style, from 0 to 5, and a size, from 0 to 9, or else the fault `BadCode`.
 pub fn select(alloc: Global, style: i32, size: i32) -> Result<FontName, Stop>
     ensures font { IfOk result (λ font. font_name style size ≡ Some (font.name, font.size)) }
+    ensures size { IfOk result (λ font. IsFontSize font.size) }
+    ensures short { IfOk result (λ font. length font.name ≤ 255) }
     ensures outside { IfErr result (IsOutside style size) }
 {
     let Some(name) = style_name(style) else {
@@ -48,7 +50,8 @@ pub fn baselineskip(size: i32) -> Option<i32>
 
 // Roman, bold extended, italic, slanted, typewriter and sans serif.
 fn style_name(style: i32) -> Option<&'static str>
-    ensures { option_copied result ≡ row style_names style }
+    ensures name { option_copied result ≡ row style_names style }
+    ensures short { IfSome result (λ name. length name.now ≤ 255) }
 {
     match style {
         0 => Some("cmr10"),
@@ -63,7 +66,8 @@ fn style_name(style: i32) -> Option<&'static str>
 
 // A size and its baselineskip.
 fn size_row(size: i32) -> Option<(i32, i32)>
-    ensures { result ≡ row sizes size }
+    ensures row { result ≡ row sizes size }
+    ensures size { IfSome result (λ s. IsFontSize s.0) }
 {
     SIZES.get(usize::try_from(size).ok()?).copied()
 }

@@ -1,9 +1,9 @@
 -- What every call over cells keeps. In each of these words what is now stands before what was.
-use Rattle.std.specs.Prelude.{◌≡◌, List, Option, Result, IfOk, OnOk, OnErr}
+use Rattle.std.specs.Prelude.{◌≡◌, Result, IfOk, OnOk, OnErr}
 use Rattle.std.specs.Option.{option_map}
 use Rattle.lb_values.specs.declared.cell.Cell.{Cell}
 use Rattle.lb_values.specs.declared.value.Value.{Value}
-use Rattle.lb_model.specs.Settings.{Setting, Notes, look, noted, noted_all}
+use Rattle.lb_model.specs.Settings.{Setting, look, noted}
 use Rattle.lb_model.specs.declared.cells.Cells.{Ghosts}
 
 -- cells that only told
@@ -28,7 +28,3 @@ pub record Tells {S X E : Type 0} (C : Ghosts S) (cell : Cell) (f : Value → X)
   pub notes_on_err : OnErr result (C.notes new ≡ C.notes old)
   pub made : C.made new ≡ C.made old
   pub loan : C.loan new ≡ C.loan old
-
--- Some cells were noted, one after another: what a call noted before memory ran out.
-abbrev pub SomeNoted : Option Notes → Option Notes → Type 0
-SomeNoted new old = (cells : List Cell) × (new ≡ option_map (noted_all cells) old)

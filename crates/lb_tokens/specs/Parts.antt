@@ -1,5 +1,5 @@
 -- Parts of the reading of lines and tokens, as the code takes them.
-use Rattle.std.specs.Prelude.{◌≡◌, ℕ, ◌==◌, ◌&&◌, ◌||◌, nat_lt, Bool, true, false, List, [], ◌∷◌, drop, Option, None, Some, if◌then◌else◌}
+use Rattle.std.specs.Prelude.{◌≡◌, ℕ, ◌-◌, ◌<◌, ◌≤◌, ◌==◌, ◌&&◌, ◌||◌, nat_lt, Bool, true, false, List, [], ◌∷◌, drop, length, take, Option, None, Some, if◌then◌else◌}
 use Rattle.lb_base.specs.declared.fault.Kind.TheVariants.{Invalid}
 use Rattle.lb_base.specs.declared.fault.Stop.{Stop}
 use Rattle.lb_base.specs.declared.fault.Stop.TheVariants.{Memory, Fault, At}
@@ -8,7 +8,7 @@ use Rattle.lb_base.specs.declared.token.Category.TheVariants.{Escape}
 use Rattle.lb_model.specs.declared.reading.Read.{Read}
 use Rattle.lb_model.specs.declared.reading.Read.TheVariants.{Tok, EndOfLine}
 use Rattle.lb_model.specs.Lines.{starts_with_byte}
-use Rattle.lb_model.specs.Tokens.{Character, alone, character, is_hexadecimal, code_of_digits, is_superscript, shifted}
+use Rattle.lb_model.specs.Tokens.{Character, cut_lines, alone, character, is_hexadecimal, code_of_digits, is_superscript, shifted}
 use Rattle.lb_tokens.specs.declared.examined.Examined.{Examined}
 
 -- ---- Lines
@@ -22,6 +22,14 @@ is_at_end (c ∷ rest) = c == 10 || (c == 13 && starts_with_byte 10 rest)
 abbrev pub after_end : List ℕ → List ℕ
 after_end [] = []
 after_end (c ∷ rest) = if c == 10 then rest else if c == 13 && starts_with_byte 10 rest then drop 1 rest else c ∷ rest
+
+-- The line that begins at a place of a text ends at `end`, and the next one begins at `next`.
+pub record IsLineAt (text : List ℕ) (at end next : ℕ) : Type 0 where
+  pub begins : at ≤ end
+  pub ends : end ≤ next
+  pub within : next ≤ length text
+  pub longer : at < next
+  pub line : cut_lines (drop at text) ≡ take (end - at) (drop at text) ∷ cut_lines (drop next text)
 
 -- ---- Characters
 

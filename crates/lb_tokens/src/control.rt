@@ -5,6 +5,7 @@ ghost use Rattle.lb_base.specs.declared.token.Tok.TheVariants.{Word};
 ghost use Rattle.lb_model.specs.declared.reading.Read.TheVariants as read;
 ghost use Rattle.lb_model.specs.declared.reading.ReaderState.TheVariants.{SkipBlanks};
 ghost use Rattle.lb_model.specs.Settings.{Setting};
+ghost use Rattle.lb_model.specs.Told.{Told};
 ghost use Rattle.lb_model.specs.Tokens.{after_letters, after_symbol, categories, characters, control_sequence, is_letter, letters, letters_examined, noted_codes};
 
 use crate::examined::{Examined, examine};
@@ -22,14 +23,11 @@ pub fn control_sequence<C: Cells>(
     cats: &mut C,
 ) -> Result<Step, NoMemory>
     requires { at ≤ length line.now }
-    ensures narrows { (p : Setting) → C.agrees cats.new p → C.agrees cats.old p }
+    ensures told { Told C.Cells cats.new cats.old }
     ensures read { IfOk result (λ s. (p : Setting) → C.agrees cats.new p → (control_sequence (characters (categories p (C.meaning cats.old p)) (drop at line.now))).read ≡ Some s.read) }
     ensures state { IfOk result (λ s. (p : Setting) → C.agrees cats.new p → (control_sequence (characters (categories p (C.meaning cats.old p)) (drop at line.now))).state ≡ s.state) }
     ensures rest { IfOk result (λ s. (p : Setting) → C.agrees cats.new p → (control_sequence (characters (categories p (C.meaning cats.old p)) (drop at line.now))).rest ≡ drop s.at line.now) }
     ensures notes { OnOk result ((p : Setting) → C.agrees cats.new p → C.notes cats.new ≡ option_map (noted_codes (control_sequence (characters (categories p (C.meaning cats.old p)) (drop at line.now))).examined) (C.notes cats.old)) }
-    ensures stays { (p : Setting) → C.agrees cats.new p → C.meaning cats.new p ≡ C.meaning cats.old p }
-    ensures made { C.made cats.new ≡ C.made cats.old }
-    ensures loan { C.loan cats.new ≡ C.loan cats.old }
     ensures goes_on { IfOk result (λ s. at ≤ s.at) }
     ensures within { IfOk result (λ s. s.at ≤ length line.now) }
 {
@@ -57,14 +55,11 @@ fn word_of_line<C: Cells>(
 ) -> Result<Step, NoMemory>
     requires order { start ≤ from }
     requires within { from ≤ length line.now }
-    ensures narrows { (p : Setting) → C.agrees cats.new p → C.agrees cats.old p }
+    ensures told { Told C.Cells cats.new cats.old }
     ensures read { IfOk result (λ s. (p : Setting) → C.agrees cats.new p → read.Tok (Word (take (from - start) (drop start line.now) ++ letters (characters (categories p (C.meaning cats.old p)) (drop from line.now)))) ≡ s.read) }
     ensures state { IfOk result (λ s. s.state ≡ SkipBlanks) }
     ensures rest { IfOk result (λ s. (p : Setting) → C.agrees cats.new p → after_letters (drop from line.now) (characters (categories p (C.meaning cats.old p)) (drop from line.now)) ≡ drop s.at line.now) }
     ensures notes { OnOk result ((p : Setting) → C.agrees cats.new p → C.notes cats.new ≡ option_map (noted_codes (letters_examined (characters (categories p (C.meaning cats.old p)) (drop from line.now)))) (C.notes cats.old)) }
-    ensures stays { (p : Setting) → C.agrees cats.new p → C.meaning cats.new p ≡ C.meaning cats.old p }
-    ensures made { C.made cats.new ≡ C.made cats.old }
-    ensures loan { C.loan cats.new ≡ C.loan cats.old }
     ensures goes_on { IfOk result (λ s. from ≤ s.at) }
     ensures within { IfOk result (λ s. s.at ≤ length line.now) }
 {
@@ -93,14 +88,11 @@ fn word_of_letters<C: Cells>(
     cats: &mut C,
 ) -> Result<Step, NoMemory>
     requires { from ≤ length line.now }
-    ensures narrows { (p : Setting) → C.agrees cats.new p → C.agrees cats.old p }
+    ensures told { Told C.Cells cats.new cats.old }
     ensures read { IfOk result (λ s. (p : Setting) → C.agrees cats.new p → read.Tok (Word (name.items ++ letters (characters (categories p (C.meaning cats.old p)) (drop from line.now)))) ≡ s.read) }
     ensures state { IfOk result (λ s. s.state ≡ SkipBlanks) }
     ensures rest { IfOk result (λ s. (p : Setting) → C.agrees cats.new p → after_letters (drop from line.now) (characters (categories p (C.meaning cats.old p)) (drop from line.now)) ≡ drop s.at line.now) }
     ensures notes { OnOk result ((p : Setting) → C.agrees cats.new p → C.notes cats.new ≡ option_map (noted_codes (letters_examined (characters (categories p (C.meaning cats.old p)) (drop from line.now)))) (C.notes cats.old)) }
-    ensures stays { (p : Setting) → C.agrees cats.new p → C.meaning cats.new p ≡ C.meaning cats.old p }
-    ensures made { C.made cats.new ≡ C.made cats.old }
-    ensures loan { C.loan cats.new ≡ C.loan cats.old }
     ensures goes_on { IfOk result (λ s. from ≤ s.at) }
     ensures within { IfOk result (λ s. s.at ≤ length line.now) }
 {

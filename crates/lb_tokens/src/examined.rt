@@ -2,6 +2,7 @@
 ghost use Rattle.std.specs.Prelude.{◌≡◌, ◌<◌, ◌≤◌, ◌+◌, ◌∷◌, drop, length, get_or, IfOk, OnOk, IfSome, true};
 ghost use Rattle.std.specs.Option.{option_map};
 ghost use Rattle.lb_model.specs.Settings.{Setting};
+ghost use Rattle.lb_model.specs.Told.{Told};
 ghost use Rattle.lb_model.specs.Tokens.{categories, characters, digit_value, is_hexadecimal, is_superscript, noted_codes, shifted};
 ghost use Rattle.lb_tokens.specs.Parts.{character_of, first_character, replacement, two_marks};
 
@@ -19,12 +20,9 @@ pub struct Examined {
 /// The character that stands at a place of a line: where it and what follows are two marks, it is the code for which they stand.
 pub fn examine<C: Cells>(line: &[u8], at: usize, cats: &mut C) -> Result<Examined, NoMemory>
     requires { at < length line.now }
-    ensures narrows { (p : Setting) → C.agrees cats.new p → C.agrees cats.old p }
+    ensures told { Told C.Cells cats.new cats.old }
     ensures character { IfOk result (λ e. (p : Setting) → C.agrees cats.new p → characters (categories p (C.meaning cats.old p)) (drop at line.now) ≡ character_of e line.now (first_character (categories p (C.meaning cats.old p)) (drop at line.now)).examined ∷ characters (categories p (C.meaning cats.old p)) (drop e.after line.now)) }
     ensures notes { OnOk result ((p : Setting) → C.agrees cats.new p → C.notes cats.new ≡ option_map (noted_codes (first_character (categories p (C.meaning cats.old p)) (drop at line.now)).examined) (C.notes cats.old)) }
-    ensures stays { (p : Setting) → C.agrees cats.new p → C.meaning cats.new p ≡ C.meaning cats.old p }
-    ensures made { C.made cats.new ≡ C.made cats.old }
-    ensures loan { C.loan cats.new ≡ C.loan cats.old }
     ensures grows { IfOk result (λ e. at < e.after) }
     ensures within { IfOk result (λ e. e.after ≤ length line.now) }
     ensures unmarked { IfOk result (λ e. e.after ≡ at + 1 → e.code ≡ get_or line.now at 0) }

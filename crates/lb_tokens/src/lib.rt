@@ -8,5 +8,5 @@ pub mod reader;
 pub mod rows;
 mod step;
 
-pub use lines::{Lines, source_line, split_line};
+pub use lines::{Lines, line_at, source_line, split_line};
 pub use reader::{LineReader, next};

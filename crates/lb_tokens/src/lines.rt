@@ -1,8 +1,8 @@
 //! The lines of a text (TeXbook, chapter 8; tex.web, part 3).
-ghost use Rattle.std.specs.Prelude.{◌≡◌, ◌∷◌, ◌<◌, [], length, IfOk, IfSome, MatchOption};
+ghost use Rattle.std.specs.Prelude.{◌≡◌, ◌∷◌, ◌<◌, ◌≤◌, [], drop, length, take, true, IfOk, IfSome, MatchOption};
 ghost use Rattle.lb_model.specs.Lines.{lines_of, trimmed};
 ghost use Rattle.lb_model.specs.Tokens.{cut_lines, source_line};
-ghost use Rattle.lb_tokens.specs.Parts.{is_at_end, after_end};
+ghost use Rattle.lb_tokens.specs.Parts.{IsLineAt, is_at_end, after_end};
 
 use lb_base::{Bytes, NoMemory};
 use std::alloc::Global;
@@ -32,8 +32,9 @@ impl<'a> Lines<'a> {
         if self.rest.is_empty() {
             return None;
         }
-        let (line, rest) = cut_line(self.rest);
-        self.rest = rest;
+        let (end, next) = cut_line(self.rest);
+        let line = &self.rest[..end];
+        self.rest = &self.rest[next..];
         Some(line)
     }
 }
@@ -55,23 +56,36 @@ pub fn split_line(text: &[u8]) -> (&[u8], &[u8])
     ensures lines { lines_of text.now ≡ result.0.now ∷ lines_of result.1.now }
     ensures shorter { length result.1.now < length text.now }
 {
-    let (line, rest) = cut_line(text);
-    (trim_end(line), rest)
+    let (end, next) = cut_line(text);
+    (trim_end(&text[..end]), &text[next..])
 }
 
-// The first line of a text that has one, without what ends it, and the text behind it.
-fn cut_line(text: &[u8]) -> (&[u8], &[u8])
+/// The line that begins at a place of a text: where it ends, and where the next one begins; none where the text ends there. Takes no memory.
+pub fn line_at(text: &[u8], at: usize) -> Option<(usize, usize)>
+    ensures { MatchOption result (length text.now ≤ at) (λ line. IsLineAt text.now at line.0 line.1) }
+{
+    if at >= text.len() {
+        return None;
+    }
+    let (end, next) = cut_line(&text[at..]);
+    Some((at + end, at + next))
+}
+
+// The first line of a text that has one: where it ends, and where the next one begins.
+fn cut_line(text: &[u8]) -> (usize, usize)
     requires { 0 < length text.now }
-    ensures lines { cut_lines text.now ≡ result.0.now ∷ cut_lines result.1.now }
-    ensures shorter { length result.1.now < length text.now }
+    ensures lines { cut_lines text.now ≡ take result.0 text.now ∷ cut_lines (drop result.1 text.now) }
+    ensures order { result.0 ≤ result.1 }
+    ensures within { result.1 ≤ length text.now }
+    ensures longer { 0 < result.1 }
 {
     for end in 0..text.len() {
         let rest = &text[end..];
         if is_at_end(rest) {
-            return (&text[..end], after_end(rest));
+            return (end, end + width_of_end(rest));
         }
     }
-    (text, &[])
+    (text.len(), text.len())
 }
 
 // A line less the spaces at its end.
@@ -95,13 +109,16 @@ fn is_at_end(text: &[u8]) -> bool
     matches!(text, [] | [b'\n', ..] | [b'\r', b'\n', ..])
 }
 
-// A text less the end of a line at its start, if there is one.
-fn after_end(text: &[u8]) -> &[u8]
-    ensures { result.now ≡ after_end text.now }
+// How many bytes end a line at the start of a text that is not empty.
+fn width_of_end(text: &[u8]) -> usize
+    requires ends { is_at_end text.now ≡ true }
+    requires there { 0 < length text.now }
+    ensures rest { drop result text.now ≡ after_end text.now }
+    ensures within { result ≤ length text.now }
+    ensures some { 0 < result }
 {
     match text {
-        [b'\n', rest @ ..] => rest,
-        [b'\r', b'\n', rest @ ..] => rest,
-        _ => text,
+        [b'\r', b'\n', ..] => 2,
+        _ => 1,
     }
 }

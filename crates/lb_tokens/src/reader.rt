@@ -3,6 +3,7 @@ ghost use Rattle.std.specs.Prelude.{◌≡◌, ◌<◌, ◌≤◌, List, Some, N
 ghost use Rattle.std.specs.Option.{option_map};
 ghost use Rattle.lb_model.specs.declared.reading.ReaderState.TheVariants.{NewLine};
 ghost use Rattle.lb_model.specs.Settings.{Setting};
+ghost use Rattle.lb_model.specs.Told.{Told};
 ghost use Rattle.lb_model.specs.Tokens.{Character, categories, is_skipped, next_token, noted_codes, read_of_end, taken_at};
 ghost use Rattle.lb_tokens.specs.Parts.{MayStopAtInvalid, character_of, is_escape, is_token};
 
@@ -38,7 +39,7 @@ impl LineReader {
 /// memory, the reader is as it was.
 pub fn next<C: Cells>(alloc: Global, reader: &mut LineReader, cats: &mut C) -> Result<Read, Stop>
     requires { reader.old.at ≤ length reader.old.line }
-    ensures narrows { (p : Setting) → C.agrees cats.new p → C.agrees cats.old p }
+    ensures told { Told C.Cells cats.new cats.old }
     ensures read { IfOk result (λ r. (p : Setting) → C.agrees cats.new p → (next_token (categories p (C.meaning cats.old p)) reader.old.state (drop reader.old.at reader.old.line)).read ≡ Some r) }
     ensures state { OnOk result ((p : Setting) → C.agrees cats.new p → (next_token (categories p (C.meaning cats.old p)) reader.old.state (drop reader.old.at reader.old.line)).state ≡ reader.new.state) }
     ensures rest { OnOk result ((p : Setting) → C.agrees cats.new p → (next_token (categories p (C.meaning cats.old p)) reader.old.state (drop reader.old.at reader.old.line)).rest ≡ drop reader.new.at reader.new.line) }
@@ -49,9 +50,6 @@ pub fn next<C: Cells>(alloc: Global, reader: &mut LineReader, cats: &mut C) -> R
     ensures line { reader.new.line ≡ reader.old.line }
     ensures within { reader.new.at ≤ length reader.new.line }
     ensures grows { IfOk result (λ r. is_token r ≡ true → reader.old.at < reader.new.at) }
-    ensures stays { (p : Setting) → C.agrees cats.new p → C.meaning cats.new p ≡ C.meaning cats.old p }
-    ensures made { C.made cats.new ≡ C.made cats.old }
-    ensures loan { C.loan cats.new ≡ C.loan cats.old }
 {
     let step = step(alloc, reader.line.as_slice(), reader.at, reader.state, cats)?;
     reader.at = step.at;
@@ -68,7 +66,7 @@ fn step<C: Cells>(
     cats: &mut C,
 ) -> Result<Step, Stop>
     requires { from ≤ length line.now }
-    ensures narrows { (p : Setting) → C.agrees cats.new p → C.agrees cats.old p }
+    ensures told { Told C.Cells cats.new cats.old }
     ensures read { IfOk result (λ s. (p : Setting) → C.agrees cats.new p → (next_token (categories p (C.meaning cats.old p)) state (drop from line.now)).read ≡ Some s.read) }
     ensures state { IfOk result (λ s. (p : Setting) → C.agrees cats.new p → (next_token (categories p (C.meaning cats.old p)) state (drop from line.now)).state ≡ s.state) }
     ensures rest { IfOk result (λ s. (p : Setting) → C.agrees cats.new p → (next_token (categories p (C.meaning cats.old p)) state (drop from line.now)).rest ≡ drop s.at line.now) }
@@ -77,9 +75,6 @@ fn step<C: Cells>(
     ensures notes_on_invalid { IfErr result (λ stop. MayStopAtInvalid stop ((p : Setting) → C.agrees cats.new p → C.notes cats.new ≡ option_map (noted_codes (next_token (categories p (C.meaning cats.old p)) state (drop from line.now)).examined) (C.notes cats.old))) }
     ensures within { IfOk result (λ s. s.at ≤ length line.now) }
     ensures grows { IfOk result (λ s. is_token s.read ≡ true → from < s.at) }
-    ensures stays { (p : Setting) → C.agrees cats.new p → C.meaning cats.new p ≡ C.meaning cats.old p }
-    ensures made { C.made cats.new ≡ C.made cats.old }
-    ensures loan { C.loan cats.new ≡ C.loan cats.old }
 {
     let mut at = from;
     while at < line.len() {

@@ -30,9 +30,9 @@ returns-then-first-at-clause-read g c =
     let letter = sym c.is_letter.ensures ∙ c.if-not-is_letter.false in
     let inside : c.args.at < length c.args.line.now = omega (arith, c.requires, c.if-at-line.false) in
     some_same c.word_of_line.result _ _ _ c.word_of_line.ensures.read (λ p h.
-    let there = c.word_of_line.ensures.narrows p h in
+    let there = c.word_of_line.ensures.told.narrows p h in
     word_read (categories p (C.meaning c.args.cats.now p)) c.args.line.now c.args.at f.first inside c.if-first-at.true f.ensures.unmarked (f.ensures.character p there) letter
-    ∙ sym (λ i. Some (read.Tok (Word (take (f.first.after - c.args.at) (drop c.args.at c.args.line.now) ++ letters (characters (categories p (c.examine.ensures.stays p there i)) (drop f.first.after c.args.line.now)))))))
+    ∙ sym (λ i. Some (read.Tok (Word (take (f.first.after - c.args.at) (drop c.args.at c.args.line.now) ++ letters (characters (categories p (c.examine.ensures.told.stays p there i)) (drop f.first.after c.args.line.now)))))))
 
 pub returns-then-first-at-clause-notes : goal.returns-then-first-at-clause-notes
 returns-then-first-at-clause-notes g c =
@@ -40,8 +40,8 @@ returns-then-first-at-clause-notes g c =
     let f = c.in_ok-first in
     let letter = sym c.is_letter.ensures ∙ c.if-not-is_letter.false in
     looks_same c.word_of_line.result _ _ _ _ c.word_of_line.ensures.notes (λ p h.
-    let there = c.word_of_line.ensures.narrows p h in
-    (λ i. option_map (noted_codes (letters_examined (characters (categories p (c.examine.ensures.stays p there i)) (drop f.first.after c.args.line.now)))) (C.notes c.examine.new.cats))
+    let there = c.word_of_line.ensures.told.narrows p h in
+    (λ i. option_map (noted_codes (letters_examined (characters (categories p (c.examine.ensures.told.stays p there i)) (drop f.first.after c.args.line.now)))) (C.notes c.examine.new.cats))
     ∙ word_looks (categories p (C.meaning c.args.cats.now p)) c.args.line.now c.args.at f.first (C.notes c.args.cats.now) (C.notes c.examine.new.cats) (f.ensures.character p there) letter (f.ensures.notes p there))
 
 pub returns-clause-notes : goal.returns-clause-notes
@@ -50,6 +50,6 @@ returns-clause-notes g c =
     let f = c.in_ok-first in
     let letter = sym c.is_letter.ensures ∙ c.if-not-is_letter.false in
     looks_same c.word_of_letters.result _ _ _ _ c.word_of_letters.ensures.notes (λ p h.
-    let there = c.word_of_letters.ensures.narrows p h in
-    (λ i. option_map (noted_codes (letters_examined (characters (categories p (c.examine.ensures.stays p there i)) (drop f.first.after c.args.line.now)))) (C.notes c.examine.new.cats))
+    let there = c.word_of_letters.ensures.told.narrows p h in
+    (λ i. option_map (noted_codes (letters_examined (characters (categories p (c.examine.ensures.told.stays p there i)) (drop f.first.after c.args.line.now)))) (C.notes c.examine.new.cats))
     ∙ word_looks (categories p (C.meaning c.args.cats.now p)) c.args.line.now c.args.at f.first (C.notes c.args.cats.now) (C.notes c.examine.new.cats) (f.ensures.character p there) letter (f.ensures.notes p there))

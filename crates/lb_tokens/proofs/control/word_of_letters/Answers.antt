@@ -11,7 +11,7 @@ returns-then-not-is_letter-clause-read g c =
     let l = c.loop-at in
     let n = c.in_ok-next in
     told c.word.result _ (λ s. s.read) (λ r. r) _ _ c.word.ensures.read (λ p h.
-    let before = c.examine.ensures.narrows p h in
+    let before = c.examine.ensures.told.narrows p h in
     let split = splits p (C.meaning l.cats p) (C.meaning c.args.cats.now p) c.args.line.now l.at n.next (l.invariant.stays p before) (n.ensures.character p h) in
     ap (λ t. read.Tok (Word t)) (word_ends (categories p (C.meaning c.args.cats.now p)) c.args.line.now l.at n.next l.name.items _ split (sym c.is_letter.ensures ∙ c.if-not-is_letter.true) (l.invariant.name p before) ∙ sym c.as_slice.ensures.value))
 
@@ -21,7 +21,7 @@ returns-then-not-is_letter-clause-rest g c =
     let l = c.loop-at in
     let n = c.in_ok-next in
     told c.word.result _ (λ s. s.at) (λ n. drop n c.args.line.now) _ _ c.word.ensures.at (λ p h.
-    let before = c.examine.ensures.narrows p h in
+    let before = c.examine.ensures.told.narrows p h in
     let split = splits p (C.meaning l.cats p) (C.meaning c.args.cats.now p) c.args.line.now l.at n.next (l.invariant.stays p before) (n.ensures.character p h) in
     rest_ends (categories p (C.meaning c.args.cats.now p)) c.args.line.now l.at n.next _ split (sym c.is_letter.ensures ∙ c.if-not-is_letter.true) (l.invariant.rest p before))
 
@@ -31,7 +31,7 @@ returns-then-not-is_letter-clause-notes g c =
     let l = c.loop-at in
     let n = c.in_ok-next in
     always c.word.result _ (λ p h.
-    let before = c.examine.ensures.narrows p h in
+    let before = c.examine.ensures.told.narrows p h in
     let split = splits p (C.meaning l.cats p) (C.meaning c.args.cats.now p) c.args.line.now l.at n.next (l.invariant.stays p before) (n.ensures.character p h) in
     let noted = notes_of p (C.meaning l.cats p) (C.meaning c.args.cats.now p) c.args.line.now l.at (C.notes l.cats) (C.notes c.examine.new.cats) (l.invariant.stays p before) (n.ensures.notes p h) in
     looks_end (categories p (C.meaning c.args.cats.now p)) c.args.line.now l.at n.next (C.notes l.cats) (C.notes c.examine.new.cats) _ split (sym c.is_letter.ensures ∙ c.if-not-is_letter.true) noted (l.invariant.notes p before))
@@ -43,25 +43,25 @@ loop-at-preserved g c =
     let n = c.in_ok-next in
     let letter = sym c.is_letter.ensures ∙ c.if-not-is_letter.false in
     record {
-      narrows = λ p h. l.invariant.narrows p (c.examine.ensures.narrows p h);
-      stays = λ p h. c.examine.ensures.stays p h ∙ l.invariant.stays p (c.examine.ensures.narrows p h);
+      narrows = λ p h. l.invariant.narrows p (c.examine.ensures.told.narrows p h);
+      stays = λ p h. c.examine.ensures.told.stays p h ∙ l.invariant.stays p (c.examine.ensures.told.narrows p h);
       name = λ p h.
-          let before = c.examine.ensures.narrows p h in
+          let before = c.examine.ensures.told.narrows p h in
           let split = splits p (C.meaning l.cats p) (C.meaning c.args.cats.now p) c.args.line.now l.at n.next (l.invariant.stays p before) (n.ensures.character p h) in
           let cats = categories p (C.meaning c.args.cats.now p) in
           ap (λ t. t ++ letters (characters cats (drop n.next.after c.args.line.now))) c.in_ok-push.ensures.items
           ∙ word_goes_on cats c.args.line.now l.at n.next l.name.items _ split letter (l.invariant.name p before);
       rest = λ p h.
-          let before = c.examine.ensures.narrows p h in
+          let before = c.examine.ensures.told.narrows p h in
           let split = splits p (C.meaning l.cats p) (C.meaning c.args.cats.now p) c.args.line.now l.at n.next (l.invariant.stays p before) (n.ensures.character p h) in
           rest_goes_on (categories p (C.meaning c.args.cats.now p)) c.args.line.now l.at n.next _ split letter (l.invariant.rest p before);
       notes = λ p h.
-          let before = c.examine.ensures.narrows p h in
+          let before = c.examine.ensures.told.narrows p h in
           let split = splits p (C.meaning l.cats p) (C.meaning c.args.cats.now p) c.args.line.now l.at n.next (l.invariant.stays p before) (n.ensures.character p h) in
           let noted = notes_of p (C.meaning l.cats p) (C.meaning c.args.cats.now p) c.args.line.now l.at (C.notes l.cats) (C.notes c.examine.new.cats) (l.invariant.stays p before) (n.ensures.notes p h) in
           looks_go_on (categories p (C.meaning c.args.cats.now p)) c.args.line.now l.at n.next (C.notes l.cats) (C.notes c.examine.new.cats) _ split letter noted (l.invariant.notes p before);
-      made = c.examine.ensures.made ∙ l.invariant.made;
-      loan = c.examine.ensures.loan ∙ l.invariant.loan;
+      made = c.examine.ensures.told.made ∙ l.invariant.made;
+      loan = c.examine.ensures.told.loan ∙ l.invariant.loan;
       goes_on = omega (arith, n.ensures.grows, l.invariant.goes_on);
       within = n.ensures.within;
     }
