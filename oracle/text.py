@@ -267,6 +267,28 @@ def parts(words):
     return [part for part in found if part]
 
 
+# ---- readings, and numbers that cells are set to
+
+READINGS = {
+    'category': ('category',), 'factor': ('number',), 'number': ('number',), 'number-if-any': ('number',),
+    'code': ('code',), 'style': ('number',), 'size': ('number',), 'steps': ('steps',), 'dimension': ('dimension',),
+    'glue': ('glue',), 'meaning': ('command', 'parameter'), 'tokens': (), 'text': ('text',), 'names': ('names',),
+    'name': ('name',), 'boxed': (), 'label': (), 'checkpoint': (), 'form': ('form',), 'pagestyle': ('style',)}
+NOTHING = {
+    'category': 'category other', 'factor': 'number 1000', 'number': 'number 0', 'code': 'code 0', 'style': 'number 0',
+    'size': 'number 0', 'steps': 'steps 0', 'dimension': 'dimension 0', 'glue': 'glue 0 0 finite 0 finite'}
+WORD = 2 ** 31 - 1
+LENGTH = 2 ** 30 - 1
+HELD = {
+    'cat': ('category', 0, 15), 'lc': ('code', 0, 255), 'uc': ('code', 0, 255), 'sf': ('number', 0, 32767),
+    'count': ('number', -WORD, WORD), 'counter': ('number', -WORD, WORD), 'dimen': ('dimension', -LENGTH, LENGTH),
+    'fresh': ('number', 30, 256), 'body': ('number', 0, 1), 'toc': ('number', 0, 1), 'matter': ('number', 0, 2),
+    'style': ('number', 0, 5), 'size': ('number', 0, 9)}
+PARAMETER_KINDS = {
+    **dict.fromkeys([*NUMBERS, 'year', 'month', 'day', 'time'], 'count'), **dict.fromkeys(DIMENSIONS, 'dimen'),
+    **dict.fromkeys(GLUES, 'glue')}
+
+
 class Program:
     def __init__(self, folder):
         self.folder = folder
@@ -321,6 +343,29 @@ class Program:
 
     def value(self, words):
         return [self.cells.value(' '.join(words).replace('_', ' '))]
+
+    def tell(self, words):
+        """What a reading tells of a cell: a value of its kind as it is, and any other as nothing."""
+        kind, *cell = words
+        value = self.cells.get(' '.join(cell).replace('_', ' '))
+        if value.split()[0] in READINGS[kind]:
+            return [value]
+        return [NOTHING.get(kind, 'absent')]
+
+    def held(self, words):
+        *cell, number = words
+        number = int(number)
+        kind = cell[0]
+        if kind == 'par':
+            kind = PARAMETER_KINDS[cell[1]]
+        name, least, most = HELD.get(kind, ('number', 1, 0))
+        if not least <= number <= most:
+            return ['none']
+        return [f'{name} {CATEGORIES[number] if name == "category" else number}']
+
+    def same(self, words):
+        one, other = parts(words)
+        return ['the same: ' + str(self.cells.get(' '.join(one)) == self.cells.get(' '.join(other))).lower()]
 
     def row(self, words):
         name = bytes.fromhex(words[0]).decode('latin-1') if words else ''

@@ -142,6 +142,30 @@ def lines():
         say('lines', hexed(bytes(draw.choice(b'a \r\n\n') for _ in range(draw.randrange(12)))))
 
 
+READ = ['cat 65', 'cat 37', 'lc 65', 'uc 98', 'sf 65', 'sf 46', 'count 1', 'counter page', 'counter none', 'dimen 1', 'par year',
+        'par tolerance', 'par hsize', 'par parskip', 'word par', 'word hsize', 'word none', 'toks 1', 'boxed 1', 'currentlabel',
+        'counters', 'resets chapter', 'env', 'job', 'label x', 'checkpoint one', 'pageform', 'pagestyle', 'thisstyle', 'style',
+        'size', 'steps', 'prefix', 'file fonts/cmr10.tfm', 'file none.tex', 'skip 1']
+
+
+def readings():
+    say('over count 1 = number 7 ; dimen 1 = dimension -9')
+    for cell in READ:
+        for kind in text.READINGS:
+            if (kind in ('category', 'factor', 'style', 'size', 'steps')
+                    and cell.split()[0] != {'category': 'cat', 'factor': 'sf'}.get(kind, kind)):
+                continue
+            say('tell', kind, cell)
+    for cell in ['cat 65', 'lc 1', 'uc 255', 'sf 65', 'count 0', 'counter x', 'dimen 255', 'par tolerance', 'par hsize', 'par parskip',
+                 'par year', 'fresh count', 'body', 'toc', 'matter', 'style', 'size', 'word par', 'skip 1', 'toks 1', 'job', 'steps']:
+        for number in [-2 ** 31, -2 ** 31 + 1, -2 ** 30, -2 ** 30 + 1, -1, 0, 1, 2, 3, 5, 6, 9, 10, *range(11, 17), 29, 30, 255, 256, 257,
+                       32767, 32768, 2 ** 30 - 1, 2 ** 30, 2 ** 31 - 1]:
+            say('held', cell, number)
+    for cell in READ:
+        for other in READ[::3]:
+            say('same', cell, ';', other)
+
+
 def fonts():
     for style in range(-1, 8):
         for size in range(-1, 12):
@@ -163,6 +187,7 @@ def main():
     tokens()
     many()
     lines()
+    readings()
     fonts()
 
 

@@ -4,8 +4,10 @@
 
 pub mod folder;
 pub mod outlet;
+pub mod outside;
 pub mod terminal;
 
 pub use folder::DiskFolder;
 pub use outlet::DiskOutlet;
+pub use outside::Outside;
 pub use terminal::TermSaid;

@@ -7,6 +7,7 @@ use lb_files::{Failed, Outlet};
 use std::alloc::{AllocError, Global};
 use std::fs::OpenOptions;
 use std::io::{ErrorKind, Write};
+use std::os::unix::fs::FileTypeExt;
 use std::rt::Files;
 use std::{fs, io, str};
 
@@ -21,6 +22,9 @@ struct Opened<R: Files> {
 
 /// Writes files in the current folder. It makes no folder, so a name in a folder that is not there
 /// is a fault.
+///
+/// What is written is a file, or a device that takes bytes one after another. Anything else that has the name, as a
+/// folder or a pipe, is a fault, and nobody waits for a reader.
 ///
 /// An append has left the program when its call answers. At most eight files stay open between the
 /// calls: where a ninth is wanted, the one used longest ago is closed, and it is opened again at its
@@ -84,7 +88,9 @@ fn begin_file<R: Files>(rt: &R, files: &mut Vec<Opened<R>>, name: &Name) -> io::
     if let Some(at) = place_of(files, name) {
         drop(files.remove(at));
     }
-    let file = fs::create(rt, path_of(name)?)?;
+    let path = path_of(name)?;
+    refuse_pipes(rt, path)?;
+    let file = fs::create(rt, path)?;
     keep_open(files, name, file)
 }
 
@@ -97,12 +103,27 @@ fn append_to<R: Files>(
     if let Some(at) = place_of(files, name) {
         files[at..].rotate_left(1);
     } else {
-        let file = OpenOptions::new().append(true).open(rt, path_of(name)?)?;
+        let path = path_of(name)?;
+        refuse_pipes(rt, path)?;
+        let file = OpenOptions::new().append(true).open(rt, path)?;
         keep_open(files, name, file)?;
     }
     match files.last_mut() {
         Some(last) => last.file.write_all(bytes),
         None => Err(io::Error::from(ErrorKind::NotFound)),
+    }
+}
+
+/// Refuses what is there and is neither a file nor a device that takes bytes one after another.
+fn refuse_pipes<R: Files>(rt: &R, path: &str) -> io::Result<()> {
+    let Ok(found) = fs::metadata(rt, path) else {
+        return Ok(());
+    };
+    let kind = found.file_type();
+    if kind.is_file() || kind.is_char_device() {
+        Ok(())
+    } else {
+        Err(io::Error::from(ErrorKind::InvalidInput))
     }
 }
 

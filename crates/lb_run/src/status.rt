@@ -5,6 +5,7 @@ ghost use Rattle.lb_run.specs.Statuses.{number_of, message_of, fault_message};
 use lb_base::{Bytes, Fault, NoMemory};
 use lb_files::Size;
 use std::alloc::Global;
+use std::{io, str};
 
 /// How a run ends. Statuses from `ReadFault` on say nothing of the input.
 #[derive(Clone, Drop, PartialEq, Eq)]
@@ -61,6 +62,18 @@ impl Status {
             Status::SayFault => Bytes::from_slice(alloc, b"print fault"),
             Status::TooLarge(_, number) => size_line(alloc, *number),
             Status::NoMain => Bytes::from_slice(alloc, b"no main"),
+        }
+    }
+
+    /// Tells on standard error what kept a run from its end, if anything did.
+    pub fn tell<R: Eprint + AllocGlobal>(&self, rt: &R) -> io::Result<()> {
+        if *self == Status::Done {
+            return Ok(());
+        }
+        let message = self.message(rt.alloc())?;
+        match str::from_utf8(message.as_slice()) {
+            Ok(line) => rt.eprintln(line),
+            Err(_) => rt.eprintln("the fault is in a file whose name is no text"),
         }
     }
 }

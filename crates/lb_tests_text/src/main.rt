@@ -8,6 +8,7 @@ mod keys;
 mod many;
 mod numbers;
 mod parts;
+mod readings;
 mod rows;
 mod shown;
 mod states;
@@ -57,6 +58,7 @@ fn run<R: Files + AllocGlobal>(
     if rows::show(alloc, words, out)?
         || states::show(alloc, words, &mut desk.state, out)?
         || changes::show(alloc, words, &desk.world, &mut desk.state, out)?
+        || readings::show(alloc, words, &desk.world, &mut desk.state, out)?
         || tokens::show(alloc, words, &desk.world, &mut desk.state, out)?
         || many::show(alloc, words, &desk.world, &mut desk.state, out)?
         || fonts::take_file(rt, words, &mut desk.world.files)?

@@ -50,7 +50,7 @@ fn add_write(alloc: Global, part: &[&str], writes: &mut Writes) -> Result<(), St
         return Err(Stop::Command);
     };
     let value = value(&part[at + 1..])?;
-    writes.insert(cell(alloc, &part[..at])?, value)?;
+    writes.insert(cell(alloc, &part[..at])?, Some(value))?;
     Ok(())
 }
 
