@@ -5,5 +5,6 @@ pub mod FontRules
 pub mod Fonts
 pub mod Nodes
 pub mod Rows
+pub mod TestFont
 pub mod Texts
 pub mod Words
