@@ -4,7 +4,7 @@ use Rattle.std.specs.List.{starts_with, ends_with, list_any, list_all}
 use Rattle.std.specs.FinMap.{get, entries}
 use lib.Pointwise.{pointwise}
 use Rattle.lb_model.specs.declared.world.World.{World}
-pub use Rattle.lb_model_paper.specs.TestFont.{test_font}
+unfoldable pub use Rattle.lb_model_paper.specs.TestFont.{test_font}
 use Rattle.lb_model.specs.Lines.{lines_of, is_empty}
 use Rattle.lb_model_book.specs.OwnLines.{is_own_line, included_name}
 
