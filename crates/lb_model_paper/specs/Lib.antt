@@ -3,6 +3,7 @@ pub mod Dvi
 pub mod FontFiles
 pub mod FontRules
 pub mod Fonts
+pub mod Marks
 pub mod Nodes
 pub mod Rows
 pub mod TestFont
