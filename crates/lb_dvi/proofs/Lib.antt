@@ -1,4 +1,5 @@
 pub mod Bounds
+pub mod Files
 pub mod Fonts
 pub mod Lengths
 pub mod Marks

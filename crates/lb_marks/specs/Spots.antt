@@ -5,6 +5,7 @@ use Rattle.lb_base.specs.declared.fault.Kind.TheVariants.{DimenTooLarge}
 use Rattle.lb_base.specs.declared.fault.Stop.{Stop}
 use Rattle.lb_base.specs.declared.fault.Stop.TheVariants.{At, Fault, Memory}
 use Rattle.lb_base.specs.declared.page.Mark.{Mark}
+use Rattle.lb_base.specs.declared.page.Mark.TheVariants.{Char, Rule}
 use Rattle.lb_marks.specs.declared.place.Spot.{Spot}
 use Rattle.lb_model_paper.specs.Marks as marks
 use Rattle.lb_model_paper.specs.Nodes as nodes
@@ -22,3 +23,8 @@ abbrev pub IsMarkStop : List Mark → Stop → Type 0
 IsMarkStop more Memory = ⊤
 IsMarkStop more (Fault kind) = (kind ≡ DimenTooLarge) × (list_all is_small_mark more ≡ false)
 IsMarkStop more (At fault) = ⊥
+
+-- the name of a character's font has at most 255 bytes
+abbrev pub HasShortName : Mark → Type 0
+HasShortName (Char h v font code width) = length font.name ≤ 255
+HasShortName (Rule h v height width) = ⊤

@@ -3,6 +3,7 @@
 #![tactic(auto)]
 
 mod drawing;
+pub mod laws;
 mod page;
 mod place;
 
