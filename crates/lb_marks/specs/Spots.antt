@@ -1,5 +1,5 @@
 -- Places and marks as the code comes to them.
-use Rattle.std.specs.Prelude.{◌≡◌, List, false, ⊤}
+use Rattle.std.specs.Prelude.{◌≡◌, ◌≤◌, List, length, false, ⊤}
 use Rattle.std.specs.List.{list_all}
 use Rattle.lb_base.specs.declared.fault.Kind.TheVariants.{DimenTooLarge}
 use Rattle.lb_base.specs.declared.fault.Stop.{Stop}
