@@ -2,23 +2,41 @@
 ghost use Rattle.std.specs.Prelude.{◌≡◌, ◌+ℤ◌};
 ghost use Rattle.lb_model_paper.specs.Boxes.{give_of};
 ghost use Rattle.lb_model_paper.specs.Nodes.{total};
+ghost use Rattle.lb_base.specs.declared.node.HeadMark.TheOpen.{Glue as GlueLayer};
 ghost use Rattle.lb_nodes.specs.Bounds.{IsLongSum};
+ghost use Rattle.lb_nodes.specs.Setting.{give_in_layer};
 
-use crate::sizes::{shrink_of, stretch_of};
-use lb_base::{GlueSet, Node};
+use lb_base::{Glue, GlueSet, Node};
 
 /// The largest sum of what 2^64 nodes have to give.
 const LONGEST_SUM: i128 = 39_614_081_257_132_168_796_771_975_168;
 
-/// What a node has to give: what it can shrink, where the glue is to shrink, and else what it can
+/// What a glue has to give: what it can shrink, where the glue is to shrink, and else what it can
 /// stretch, of the order that is used.
+fn give_of_glue(set: GlueSet, glue: &Glue) -> i32
+    ensures { result ≡ give_in_layer set (GlueLayer glue.now) }
+{
+    if set.excess < 0 {
+        if glue.shrink_order == set.order {
+            glue.shrink
+        } else {
+            0
+        }
+    } else if glue.stretch_order == set.order {
+        glue.stretch
+    } else {
+        0
+    }
+}
+
+/// What a node has to give. Only glue gives something.
+#[tactic(auto, unfolding(lb_model_paper::specs::Nodes::stretch_of, lb_model_paper::specs::Nodes::shrink_of))]
 pub fn give_of(set: GlueSet, node: &Node) -> i32
     ensures { result ≡ give_of set node.now }
 {
-    if set.excess < 0 {
-        shrink_of(set.order, node)
-    } else {
-        stretch_of(set.order, node)
+    match node {
+        Node::Glue(glue) => give_of_glue(set, glue),
+        _ => 0,
     }
 }
 
