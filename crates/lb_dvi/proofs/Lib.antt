@@ -1,5 +1,7 @@
 pub mod Bounds
+pub mod Files
 pub mod Fonts
 pub mod Lengths
-pub mod Marks
+pub mod Drawables
+pub mod Drawings
 pub mod Progresses

@@ -15,10 +15,14 @@ const FNT_DEF1: u8 = 243;
 /// The most fonts that a file has.
 const MOST_FONTS: usize = 60;
 
+/// Whether two fonts are the same. Their numbers mostly tell them apart, so the names come last.
 fn is_same(font: &FontId, other: &FontId) -> bool
     ensures { result ≡ same_font font.now other.now }
 {
-    font == other
+    font.size == other.size
+        && font.check == other.check
+        && font.design == other.design
+        && font.name == other.name
 }
 
 fn is_present(present: &Option<FontId>, font: &FontId) -> bool

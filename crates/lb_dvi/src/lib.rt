@@ -1,6 +1,7 @@
 //! DVI files, written page by page (the DVI format, version 2).
 #![tactic(auto)]
 
+mod drawable;
 mod font;
 pub mod laws;
 mod mark;
@@ -9,5 +10,7 @@ mod opening;
 mod pen;
 mod writer;
 
+pub use drawable::is_drawable;
+pub use lb_marks::{FontId, Mark, MarkList, PageCode, marks, page_code};
 pub use opening::preamble;
 pub use writer::{DviStop, Writer};

@@ -1,10 +1,10 @@
 -- The form of the books that are built: include lines, and chapters of plain words.
-use Rattle.std.specs.Prelude.{ℕ, Bool, true, false, ◌&&◌, ◌||◌, not, ◌==◌, nat_eq, nat_le, List, [], ◌∷◌, ◌++◌, length, filter, replicate, codes, if◌then◌else◌, Option, None, Some}
-use Rattle.std.specs.List.{starts_with, ends_with, list_any, list_all, flat_map}
+use Rattle.std.specs.Prelude.{ℕ, Bool, true, false, ◌&&◌, ◌||◌, not, ◌==◌, nat_eq, nat_le, List, [], ◌∷◌, ◌++◌, length, filter, codes, if◌then◌else◌, Option, None, Some}
+use Rattle.std.specs.List.{starts_with, ends_with, list_any, list_all}
 use Rattle.std.specs.FinMap.{get, entries}
 use lib.Pointwise.{pointwise}
 use Rattle.lb_model.specs.declared.world.World.{World}
-use Rattle.lb_model_paper.specs.Dvi.{word, half}
+unfoldable pub use Rattle.lb_model_paper.specs.TestFont.{test_font}
 use Rattle.lb_model.specs.Lines.{lines_of, is_empty}
 use Rattle.lb_model_book.specs.OwnLines.{is_own_line, included_name}
 
@@ -74,15 +74,7 @@ is_some_plain (Some text) = is_plain_text text
 abbrev pub is_plain_chapter : World → List ℕ → Bool
 is_plain_chapter world name = is_some_plain (get world.files (tex_file name))
 
--- The test font: characters 33 to 126, each 5pt wide, 7.5pt high and 2.5pt deep at 10pt, and a space of 3pt. The counts
--- of words come first, then the header, the characters, their widths, heights, depths and italics, and the parameters.
-unfoldable pub test_font : List ℕ
-test_font =
-    flat_map half (116 ∷ 2 ∷ 33 ∷ 126 ∷ 2 ∷ 2 ∷ 2 ∷ 1 ∷ 0 ∷ 0 ∷ 0 ∷ 7 ∷ [])
-    ++ flat_map word (0 ∷ 0x00a00000 ∷ replicate 94 0x01110000)
-    ++ flat_map word (0 ∷ 0x00080000 ∷ 0 ∷ 0x000c0000 ∷ 0 ∷ 0x00040000 ∷ 0 ∷ [])
-    ++ flat_map word (0 ∷ 0x0004cccd ∷ 0x0001999a ∷ 0x0001999a ∷ 0x00080000 ∷ 0x00100000 ∷ 0x0001999a ∷ [])
-
+-- the test font stands in the folder
 abbrev pub is_text : Option (List ℕ) → List ℕ → Bool
 is_text None text = false
 is_text (Some bytes) text = pointwise nat_eq bytes text

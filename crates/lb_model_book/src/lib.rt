@@ -2,5 +2,6 @@
 #![tactic(auto)]
 
 pub mod end;
+pub mod laws;
 
 pub use end::End;

@@ -4,7 +4,9 @@ pub mod FontFiles
 pub mod FontRules
 pub mod Fonts
 pub mod FoundFonts
+pub mod Marks
 pub mod Nodes
 pub mod Rows
+pub mod TestFont
 pub mod Texts
 pub mod Words

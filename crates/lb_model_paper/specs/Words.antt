@@ -1,6 +1,9 @@
 -- Words: how a font's ligature and kerning programs rewrite a list of characters from the left, and the spaces between words
 -- (The TeXbook, chapters 4 and 12 and appendix F; tex.web, sections 1029 to 1044). Lengths are in scaled points.
-use Rattle.std.specs.Prelude.{ℕ, zero, suc, ◌-◌, length, slice_index, ◌==◌, Bool, true, false, List, [], ◌∷◌, ◌++◌, map, if◌then◌else◌, Option, None, Some, ℤ, pos, ◌+ℤ◌, ◌*ℤ◌, int_le, int_div}
+use Rattle.std.specs.Prelude.{ℕ, zero, suc, ◌-◌, length, slice_index, ◌==◌, Bool, true, false, ◌&&◌, List, [], ◌∷◌, ◌++◌, map, if◌then◌else◌, Option, None, Some, Result, Ok, Err, ℤ, pos, ◌+ℤ◌, ◌*ℤ◌, int_le, int_div}
+use Rattle.std.specs.List.{flat_map}
+use Rattle.lb_base.specs.declared.fault.Kind.{Kind}
+use Rattle.lb_base.specs.declared.fault.Kind.TheVariants.{DimenTooLarge}
 use Rattle.lb_base.specs.declared.font.LigStep.{LigStep}
 use Rattle.lb_base.specs.declared.font.LigStep.TheVariants.{Nothing, Kern, Lig}
 use Rattle.lb_base.specs.declared.font.Metrics.{Metrics}
@@ -11,10 +14,13 @@ use Rattle.lb_base.specs.declared.font.WordPart.{WordPart}
 use Rattle.lb_base.specs.declared.font.WordPart.TheVariants.{Edge as WordEdge, Letter, Ligature}
 use Rattle.lb_base.specs.declared.glue.Glue.{Glue}
 use Rattle.lb_base.specs.declared.glue.Order.TheVariants.{Finite}
-use Rattle.lb_base.specs.declared.node.Discretionary.{roll-Discretionary}
+use Rattle.lb_base.specs.declared.node.Boxed.{Boxed}
+use Rattle.lb_base.specs.declared.node.Discretionary.{Discretionary, roll-Discretionary}
+use Rattle.lb_base.specs.declared.node.HeadMark.{HeadMark}
+use Rattle.lb_base.specs.declared.node.HeadMark.TheOpen.{Char as CharLayer, Lig as LigLayer}
 use Rattle.lb_base.specs.declared.node.KernOrigin.TheVariants.{Font}
-use Rattle.lb_base.specs.declared.node.Node.{Node, Char as CharNode, Lig as LigNode, Kern as KernNode, Glue as GlueNode, Disc}
-use Rattle.lb_model_paper.specs.Dvi.{IsSmall}
+use Rattle.lb_base.specs.declared.node.Node.{Node, Node-F, out-Node, Char as CharNode, Lig as LigNode, Kern as KernNode, Glue as GlueNode, Disc}
+use Rattle.lb_model_paper.specs.Dvi.{is_small, IsSmall}
 use Rattle.lb_model_paper.specs.Fonts.{FontData, metrics_of, step_of}
 
 -- ---- the nodes of a part
@@ -151,3 +157,29 @@ pub record IsSmallGlue (glue : Glue) : Type 0 where
 
 abbrev pub space_node : Parameters → ℤ → Node
 space_node font factor = GlueNode (space_glue font factor)
+
+-- the same as a test
+abbrev pub is_small_glue : Glue → Bool
+is_small_glue glue = is_small glue.width && (is_small glue.stretch && is_small glue.shrink)
+
+-- a list with a space behind it, or why there is none
+unfoldable pub spaced : Parameters → ℤ → List Node → Result (List Node) Kind
+spaced font factor nodes = if is_small_glue (space_glue font factor) then Ok (nodes ++ space_node font factor ∷ []) else Err DimenTooLarge
+
+-- ---- what a word stands for
+
+-- the characters that a node of a word stands for; a ligature for all that its steps took away
+abbrev pub letters_in : Node-F HeadMark Node Boxed Discretionary → List ℕ
+letters_in (CharLayer code metrics font) = code ∷ []
+letters_in (LigLayer ligature) = ligature.letters
+letters_in _ = []
+
+unfoldable pub letters_of_node : Node → List ℕ
+letters_of_node node = letters_in (out-Node node)
+
+abbrev pub letters_of_list : List Node → List ℕ
+letters_of_list nodes = flat_map letters_of_node nodes
+
+-- the characters of a word as they are, one by one
+abbrev pub characters_of : FontData → List ℕ → List Node
+characters_of font codes = flat_map (λ code. nodes_of font (Letter code)) codes

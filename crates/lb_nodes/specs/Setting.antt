@@ -1,11 +1,18 @@
 -- How far the glue of a box is given out while one goes over its items.
-use Rattle.std.specs.Prelude.{ℕ, ◌≤◌, List, length, take, ℤ, ◌+ℤ◌}
+use Rattle.std.specs.Prelude.{ℕ, ◌≤◌, List, length, take, ℤ, ◌+ℤ◌, if◌then◌else◌}
+use Rattle.std.specs.Int.{is_negative}
 use Rattle.lb_base.specs.declared.glue.GlueSet.{GlueSet}
 use Rattle.lb_base.specs.declared.node.Boxed.{Boxed, out-Boxed}
-use Rattle.lb_base.specs.declared.node.Node.{Node}
+use Rattle.lb_base.specs.declared.node.Discretionary.{Discretionary}
+use Rattle.lb_base.specs.declared.node.HeadMark.{HeadMark}
+use Rattle.lb_base.specs.declared.node.Node.{Node, Node-F}
 use Rattle.lb_model_paper.specs.Boxes.{AreSmallSums, give_of, shift_after, shift_behind}
 use Rattle.lb_model_paper.specs.Dvi.{IsSmall}
-use Rattle.lb_model_paper.specs.Nodes.{total}
+use Rattle.lb_model_paper.specs.Nodes.{shrink_in, stretch_in, total}
+
+-- what a node has to give, by what it is
+abbrev pub give_in_layer : GlueSet → Node-F HeadMark Node Boxed Discretionary → ℤ
+give_in_layer set layer = if is_negative set.excess then shrink_in set.order layer else stretch_in set.order layer
 
 -- how the glue of a box is set, what the items gone over have to give, and what all have
 pub record Given : Type 0 where
@@ -28,15 +35,6 @@ given_past given node = record { set = given.set; part = given.part +ℤ give_of
 -- the shift there
 abbrev pub shift_given : Given → ℤ
 shift_given given = shift_behind given.set given.part given.whole
-
--- what is given is small, and so is the shift
-pub record IsSmallGiven (given : Given) : Type 0 where
-  pub part : IsSmall given.part
-  pub shift : IsSmall (shift_given given)
-
--- what the first items of a list have to give is small, for each number of them
-abbrev pub AreSmallGives : GlueSet → List Node → Type 0
-AreSmallGives set nodes = (k : ℕ) → k ≤ length nodes → IsSmall (total (give_of set) (take k nodes))
 
 abbrev pub AreSmallShifts : GlueSet → List Node → Type 0
 AreSmallShifts set nodes = (k : ℕ) → k ≤ length nodes → IsSmall (shift_after set nodes k)

@@ -10,12 +10,14 @@ mod fault;
 mod fonts;
 mod lists;
 mod making;
+mod marks;
 mod number;
 mod stop;
 mod text;
 
 use fonts::Shelf;
 use lb_base::NodeList;
+use lb_dvi::Writer;
 use sqlite_items::Items;
 use std::io::{BufRead, BufReader};
 use std::rt::Files;
@@ -28,11 +30,12 @@ fn main(rt: HostRuntime) -> Result<(), Stop> {
         font: None,
     };
     let mut list: NodeList = Items::new(alloc);
+    let mut writer = Writer::new(alloc);
     let mut out = String::new(alloc);
     for line in BufReader::new(alloc, rt.reader())?.lines(alloc) {
         let line = line?;
         let words: Vec<&str> = line.split_whitespace().collect(alloc)?;
-        run(&rt, &words, &mut shelf, &mut list, &mut out)?;
+        run(&rt, &words, &mut shelf, &mut list, &mut writer, &mut out)?;
         rt.print(&out)?;
         out.clear();
     }
@@ -45,6 +48,7 @@ fn run<R: Files + AllocGlobal>(
     words: &[&str],
     shelf: &mut Shelf,
     list: &mut NodeList,
+    writer: &mut Writer,
     out: &mut String,
 ) -> Result<(), Stop> {
     let alloc = rt.alloc();
@@ -54,6 +58,7 @@ fn run<R: Files + AllocGlobal>(
         || lists::change(alloc, words, list)?
         || boxes::show(alloc, words, list, out)?
         || text::show(alloc, words, &shelf.font, out)?
+        || marks::show(alloc, words, list.as_slice(), writer, out)?
     {
         return Ok(());
     }

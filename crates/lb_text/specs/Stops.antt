@@ -1,21 +1,19 @@
--- Why a space or a word stops.
-use Rattle.std.specs.Prelude.{◌≡◌, ℕ, zero, suc, List, ◌++◌, reverse, Option, Some, None, ℤ}
-use Rattle.lb_base.specs.declared.fault.Kind.TheVariants.{DimenTooLarge, StepLimit}
+-- Why a word stops, and what calls leave behind.
+use Rattle.std.specs.Prelude.{◌≡◌, ℕ, zero, suc, List, ◌++◌, reverse, Option, Some, None, Result, Ok, Err}
+use Rattle.lb_base.specs.declared.fault.Kind.TheVariants.{StepLimit}
 use Rattle.lb_base.specs.declared.fault.Stop.{Stop}
 use Rattle.lb_base.specs.declared.fault.Stop.TheVariants.{Memory, Fault, At}
 use Rattle.lb_base.specs.declared.font.LigStep.{LigStep}
 use Rattle.lb_base.specs.declared.font.LigStep.TheVariants.{Nothing, Kern, Lig}
-use Rattle.lb_base.specs.declared.font.Parameters.{Parameters}
 use Rattle.lb_base.specs.declared.font.WordPart.{WordPart}
 use Rattle.lb_base.specs.declared.node.Node.{Node}
 use Rattle.lb_model_paper.specs.Fonts.{FontData}
-use Rattle.lb_model_paper.specs.Words.{Cursor, IsSmallGlue, set_from, set_word, space_glue}
+use Rattle.lb_model_paper.specs.Words.{Cursor, set_from, set_word}
 
--- A space stops for want of memory, or where a length of its glue is 2^30 or more in size.
-abbrev pub IsSpaceStop : Parameters → ℤ → Stop → Type 0
-IsSpaceStop font factor Memory = Unit {0}
-IsSpaceStop font factor (Fault kind) = (kind ≡ DimenTooLarge) × (IsSmallGlue (space_glue font factor) → ⊥)
-IsSpaceStop font factor (At fault) = ⊥
+-- the answer of a call that changes a value, as if it gave the new one back
+abbrev pub leaving : {T : Type 0} → T → Result (Unit {0}) Stop → Result T Stop
+leaving value (Ok none) = Ok value
+leaving value (Err stop) = Err stop
 
 -- A word stops for want of memory, or where it needs more steps than may be taken.
 abbrev pub IsWordStop : FontData → ℕ → List Node → List ℕ → Stop → Type 0

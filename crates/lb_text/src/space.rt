@@ -1,8 +1,9 @@
 //! Spaces between words.
-ghost use Rattle.std.specs.Prelude.{◌≡◌, ◌∷◌, ◌++◌, [], ◌<ℤ◌, ◌≤ℤ◌, pos, ◌↔◌, IsTrue, OnOk, OnErr, IfErr, MatchOption, int_div, ◌*ℤ◌};
+ghost use Rattle.std.specs.Prelude.{◌≡◌, ◌<ℤ◌, ◌≤ℤ◌, pos, ◌↔◌, IsTrue, OnErr, MatchOption, int_div, ◌*ℤ◌};
+ghost use Rattle.lb_base.specs.Answers.{Answers};
 ghost use Rattle.lb_model_paper.specs.Dvi.{IsSmall};
-ghost use Rattle.lb_model_paper.specs.Words.{finite_glue, space_glue, space_node, space_width, IsSmallGlue};
-ghost use Rattle.lb_text.specs.Stops.{IsSpaceStop};
+ghost use Rattle.lb_model_paper.specs.Words.{finite_glue, space_glue, space_width, spaced, IsSmallGlue};
+ghost use Rattle.lb_text.specs.Stops.{leaving};
 
 use lb_base::{Glue, Kind, Node, NodeList, Order, Parameters, Stop};
 use lb_tfm::Font;
@@ -75,10 +76,8 @@ fn glue_of(font: Parameters, factor: i32) -> Option<Glue>
 pub fn add_space(list: &mut NodeList, font: &Font, factor: i32) -> Result<(), Stop>
     requires above { pos 0 <ℤ factor }
     requires small { factor ≤ℤ pos 32767 }
-    ensures ok { OnOk result (list.new ≡ list.old ++ space_node font.now.parameters factor ∷ []) }
-    ensures small { OnOk result (IsSmallGlue (space_glue font.now.parameters factor)) }
+    ensures answer { Answers (spaced font.now.parameters factor list.old) (leaving list.new result) }
     ensures err { OnErr result (list.new ≡ list.old) }
-    ensures stop { IfErr result (IsSpaceStop font.now.parameters factor) }
 {
     let Some(glue) = glue_of(font.parameters(), factor) else {
         return Err(Stop::Fault(Kind::DimenTooLarge));

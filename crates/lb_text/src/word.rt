@@ -68,6 +68,7 @@ pub fn finish_word(
     ensures word { OnErr result (word.new ≡ word.old) }
     ensures list { OnErr result (list.new ≡ list.old) }
     ensures steps { OnErr result (steps.new ≡ steps.old) }
+    ensures fewer { steps.new ≤ steps.old }
     ensures stop { IfErr result (IsWordStop font.now steps.old list.old word.old) }
 {
     let codes = word.codes.as_slice();

@@ -1,3 +1,3 @@
+pub mod ProgramFont
 pub mod Refusals
-pub mod TestFont
 pub mod Wholes

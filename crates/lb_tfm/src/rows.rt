@@ -6,7 +6,8 @@ ghost use Rattle.lb_base.specs.declared.font.Side.TheVariants.{Char, Edge};
 ghost use Rattle.lb_model_paper.specs.Fonts.{metrics_of, step_of};
 ghost use Rattle.lb_model_paper.specs.FontFiles.{font_of};
 ghost use Rattle.lb_model_paper.specs.FontRules.{first_broken};
-ghost use Rattle.lb_tfm.specs.TestFont.{program_font, test_font};
+ghost use Rattle.lb_model_paper.specs.TestFont.{test_font};
+ghost use Rattle.lb_tfm.specs.ProgramFont.{program_font};
 
 /// A font of 94 characters at 10pt.
 pub fn worked_font()

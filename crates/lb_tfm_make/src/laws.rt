@@ -3,12 +3,13 @@ ghost use Rattle.std.specs.Prelude.{◌≡◌, ◌≢◌, ◌<◌, ◌≤◌, �
 ghost use Rattle.std.specs.List.{list_any};
 ghost use Rattle.lb_model_paper.specs.Dvi.{int_eq};
 ghost use Rattle.lb_model_paper.specs.FontFiles as file;
+ghost use Rattle.lb_model_paper.specs.TestFont.{test_font};
 ghost use Rattle.lb_tfm_make.specs.declared.spec.CharWidth.{CharWidth};
 ghost use Rattle.lb_tfm_make.specs.declared.spec.FontSpec.{FontSpec};
 ghost use Rattle.lb_tfm_make.specs.FontBytes as bytes;
 ghost use Rattle.lb_tfm_make.specs.FontSpecs as spec;
 ghost use Rattle.lb_tfm_make.specs.MadeFonts.{IsMadeOf};
-ghost use Rattle.lb_tfm_make.specs.TestFont.{test_bytes, test_font};
+ghost use Rattle.lb_tfm_make.specs.TestFont as test;
 
 /// The file of a description breaks no rule, and gives the metrics of its rows and its steps.
 pub fn made_files()
@@ -33,5 +34,5 @@ pub fn bytes_of_fix_words()
 
 /// The file of the test font.
 pub fn worked_file()
-    ensures { bytes.file_of test_font ≡ test_bytes }
+    ensures { bytes.file_of test.test_font ≡ test_font }
 {}

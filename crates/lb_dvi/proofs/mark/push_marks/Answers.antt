@@ -1,7 +1,7 @@
 use Rattle.std.proofs.Common.{◌<◌, length, IsErrOf, rules}
 use Rattle.lb_model_paper.specs.Dvi.{fonts_after}
 use Rattle.lb_dvi.specs.declared.writer.DviStop.TheVariants.{PageLimit}
-use Rattle.lb_dvi.proofs.Marks.{drawing-over}
+use Rattle.lb_dvi.proofs.Drawings.{drawing-over}
 use Rattle.lb_dvi.proofs.mark.push_marks.Goals as goal
 
 pub returns-in_err-push_mark-clause-limit : goal.returns-in_err-push_mark-clause-limit

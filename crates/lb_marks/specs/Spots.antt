@@ -1,0 +1,30 @@
+-- Places and marks as the code comes to them.
+use Rattle.std.specs.Prelude.{◌≡◌, ◌≤◌, List, length, false, ⊤}
+use Rattle.std.specs.List.{list_all}
+use Rattle.lb_base.specs.declared.fault.Kind.TheVariants.{DimenTooLarge}
+use Rattle.lb_base.specs.declared.fault.Stop.{Stop}
+use Rattle.lb_base.specs.declared.fault.Stop.TheVariants.{At, Fault, Memory}
+use Rattle.lb_base.specs.declared.page.Mark.{Mark}
+use Rattle.lb_base.specs.declared.page.Mark.TheVariants.{Char, Rule}
+use Rattle.lb_marks.specs.declared.place.Spot.{Spot}
+use Rattle.lb_model_paper.specs.Marks as marks
+use Rattle.lb_model_paper.specs.Nodes as nodes
+use Rattle.lb_nodes.specs.declared.sizes.Size.{Size}
+use Rattle.lb_model_paper.specs.Marks.{is_small_mark}
+
+abbrev pub spot_of : Spot → marks.Spot
+spot_of spot = record { h = spot.h; v = spot.v }
+
+abbrev pub size_of_rule : Size → nodes.Size
+size_of_rule size = record { width = size.width; height = size.height; depth = size.depth }
+
+-- why some marks are not put behind others: there is not enough memory, or one is not small
+abbrev pub IsMarkStop : List Mark → Stop → Type 0
+IsMarkStop more Memory = ⊤
+IsMarkStop more (Fault kind) = (kind ≡ DimenTooLarge) × (list_all is_small_mark more ≡ false)
+IsMarkStop more (At fault) = ⊥
+
+-- the name of a character's font has at most 255 bytes
+abbrev pub HasShortName : Mark → Type 0
+HasShortName (Char h v font code width) = length font.name ≤ 255
+HasShortName (Rule h v height width) = ⊤

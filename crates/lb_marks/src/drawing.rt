@@ -1,0 +1,201 @@
+//! The marks of a box and of the boxes in it.
+ghost use Rattle.std.specs.Prelude.{◌≡◌, ◌++◌, ◌∷◌, [], true, ◌&&◌, ◌+ℤ◌, OnOk, IfErr};
+ghost use Rattle.lb_base.specs.declared.page.Mark.TheVariants.{Char, Rule};
+ghost use Rattle.std.specs.List.{list_all};
+ghost use Rattle.lb_model_paper.specs.Dvi.{is_small};
+ghost use Rattle.lb_model_paper.specs.Marks.{is_length, is_small_mark, marks_at, node_marks, rule_in, rule_mark};
+ghost use Rattle.lb_model_paper.specs.Nodes.{along};
+ghost use Rattle.lb_marks.specs.Spots.{IsMarkStop, size_of_rule, spot_of};
+
+use crate::place::{Spot, baseline_of, moved, spot_along};
+use lb_base::{Axis, Boxed, FontId, Kind, Mark, MarkList, Node, RuleSize, Stop};
+use lb_nodes::Shifts;
+use lb_nodes::sizes::{Size, along};
+
+/// Whether a length is below 2^30 in size.
+fn is_small(length: i128) -> bool
+    ensures { result ≡ is_small length }
+{
+    -1_073_741_823 <= length && length <= 1_073_741_823
+}
+
+/// Whether the right end of a character is small that begins at a small place.
+fn is_small_end(h: i128, width: i32) -> bool
+    requires { is_small h ≡ true }
+    ensures { result ≡ is_small (h +ℤ width) }
+{
+    is_small(h + i128::from(width))
+}
+
+fn is_small_char(spot: Spot, width: i32) -> bool
+    ensures { result ≡ (is_small spot.h && (is_small spot.v && is_small (spot.h +ℤ width))) }
+{
+    is_small(spot.h) && (is_small(spot.v) && is_small_end(spot.h, width))
+}
+
+/// Whether 32 bits hold a length.
+fn is_length(length: i64) -> bool
+    ensures { result ≡ is_length length }
+{
+    -2_147_483_648 <= length && length <= 2_147_483_647
+}
+
+fn is_small_rule(h: i128, v: i128, height: i64) -> bool
+    ensures { result ≡ (is_small h && (is_small v && is_length height)) }
+{
+    is_small(h) && (is_small(v) && is_length(height))
+}
+
+/// A small length in 32 bits.
+fn held(length: i128) -> i32
+    requires { is_small length ≡ true }
+    ensures { result ≡ length }
+{
+    length as i32
+}
+
+/// A length in 32 bits that they hold.
+fn held_height(length: i64) -> i32
+    requires { is_length length ≡ true }
+    ensures { result ≡ length }
+{
+    length as i32
+}
+
+/// Puts a character behind some marks, if its place and its right end are small.
+fn push_char(
+    marks: &mut MarkList,
+    spot: Spot,
+    font: &FontId,
+    code: u8,
+    width: i32,
+) -> Result<(), Stop>
+    ensures ok { OnOk result (marks.new ≡ marks.old ++ Char spot.h spot.v font.now code width ∷ []) }
+    ensures small { OnOk result (is_small_mark (Char spot.h spot.v font.now code width) ≡ true) }
+    ensures stop { IfErr result (IsMarkStop (Char spot.h spot.v font.now code width ∷ [])) }
+{
+    if !is_small_char(spot, width) {
+        return Err(Stop::Fault(Kind::DimenTooLarge));
+    }
+    marks.push(Mark::Char {
+        h: held(spot.h),
+        v: held(spot.v),
+        font: font.clone()?,
+        code,
+        width,
+    })?;
+    Ok(())
+}
+
+/// The size of a rule in a box, to which it runs across the list where its size is open.
+fn rule_in(boxed: &Boxed, rule: RuleSize) -> Size
+    ensures { size_of_rule result ≡ rule_in boxed.now.axis boxed.now rule }
+{
+    match boxed.axis {
+        Axis::Horizontal => Size {
+            width: rule.width.unwrap_or(0),
+            height: rule.height.unwrap_or(boxed.height),
+            depth: rule.depth.unwrap_or(boxed.depth),
+        },
+        Axis::Vertical => Size {
+            width: rule.width.unwrap_or(boxed.width),
+            height: rule.height.unwrap_or(0),
+            depth: rule.depth.unwrap_or(0),
+        },
+    }
+}
+
+/// Puts a rule with this lower left corner behind some marks, if its place is small.
+fn push_rule_at(marks: &mut MarkList, h: i128, v: i128, height: i64, width: i32) -> Result<(), Stop>
+    ensures ok { OnOk result (marks.new ≡ marks.old ++ Rule h v height width ∷ []) }
+    ensures small { OnOk result (is_small_mark (Rule h v height width) ≡ true) }
+    ensures stop { IfErr result (IsMarkStop (Rule h v height width ∷ [])) }
+{
+    if !is_small_rule(h, v, height) {
+        return Err(Stop::Fault(Kind::DimenTooLarge));
+    }
+    marks.push(Mark::Rule {
+        h: held(h),
+        v: held(v),
+        height: held_height(height),
+        width,
+    })?;
+    Ok(())
+}
+
+/// The height and the depth of a rule together.
+fn height_of(size: Size) -> i64
+    ensures { result ≡ size.height +ℤ size.depth }
+{
+    i64::from(size.height) + i64::from(size.depth)
+}
+
+/// Puts a rule behind some marks, whose baseline begins at a spot, if its place is small.
+fn push_rule(marks: &mut MarkList, spot: Spot, size: Size) -> Result<(), Stop>
+    ensures ok { OnOk result (marks.new ≡ marks.old ++ rule_mark (spot_of spot) (size_of_rule size) ∷ []) }
+    ensures small { OnOk result (is_small_mark (rule_mark (spot_of spot) (size_of_rule size)) ≡ true) }
+    ensures stop { IfErr result (IsMarkStop (rule_mark (spot_of spot) (size_of_rule size) ∷ [])) }
+{
+    let v = moved(spot.v, i128::from(size.depth))?;
+    push_rule_at(marks, spot.h, v, height_of(size), size.width)
+}
+
+/// The room that a node takes along its list.
+fn room_of(axis: Axis, node: &Node) -> i128
+    ensures { result ≡ along axis node.now }
+{
+    i128::from(along(axis, node))
+}
+
+/// Puts the marks of an item of a box, which begins at a spot, behind others.
+#[cycle(drawing)]
+#[tactic(auto, unfolding(lb_model_paper::specs::Marks::node_marks))]
+fn push_node(node: &Node, boxed: &Boxed, begin: Spot, marks: &mut MarkList) -> Result<(), Stop>
+    ensures ok { OnOk result (marks.new ≡ marks.old ++ node_marks marks_at boxed.now (spot_of begin) node.now) }
+    ensures small { OnOk result (list_all is_small_mark (node_marks marks_at boxed.now (spot_of begin) node.now) ≡ true) }
+    ensures stop { IfErr result (IsMarkStop (node_marks marks_at boxed.now (spot_of begin) node.now)) }
+{
+    let spot = baseline_of(boxed.axis, begin, node)?;
+    match node {
+        Node::Char {
+            code,
+            metrics,
+            font,
+        } => push_char(marks, spot, font, *code, metrics.width),
+        Node::Lig(ligature) => {
+            let ligature = ligature.get();
+            push_char(
+                marks,
+                spot,
+                &ligature.font,
+                ligature.code,
+                ligature.metrics.width,
+            )
+        }
+        Node::Rule(size) => push_rule(marks, spot, rule_in(boxed, *size)),
+        Node::Boxed(inner) => push_box(inner.get(), spot, marks),
+        _ => Ok(()),
+    }
+}
+
+/// Puts the marks of a box whose baseline begins at a spot behind others.
+#[cycle(drawing)]
+pub fn push_box(boxed: &Boxed, spot: Spot, marks: &mut MarkList) -> Result<(), Stop>
+    ensures ok { OnOk result (marks.new ≡ marks.old ++ marks_at boxed.now (spot_of spot)) }
+    ensures small { OnOk result (list_all is_small_mark (marks_at boxed.now (spot_of spot)) ≡ true) }
+    ensures stop { IfErr result (IsMarkStop (marks_at boxed.now (spot_of spot))) }
+{
+    let mut shifts = Shifts::over(boxed);
+    let mut room = 0i128;
+    let mut shift = 0i128;
+    for node in boxed.items.as_slice() {
+        let along = moved(room, shift)?;
+        let begin = spot_along(boxed.axis, boxed.height, spot, along)?;
+        if let Err(stop) = push_node(node, boxed, begin, marks) {
+            return Err(stop);
+        }
+        room = moved(room, room_of(boxed.axis, node))?;
+        shift = shifts.through(node);
+    }
+    Ok(())
+}
