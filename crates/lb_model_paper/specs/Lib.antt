@@ -1,8 +1,11 @@
+pub mod BestBreaks
 pub mod Boxes
+pub mod Breaks
 pub mod Dvi
 pub mod FontFiles
 pub mod FontRules
 pub mod Fonts
+pub mod Lines
 pub mod Nodes
 pub mod Rows
 pub mod Texts

@@ -1,0 +1,7 @@
+pub mod Charts
+pub mod Gathered
+pub mod Least
+pub mod Orders
+pub mod Stops
+pub mod Trails
+pub mod Winners

@@ -1,0 +1,12 @@
+//! What the definition of the best list of breaks means.
+ghost use Rattle.std.specs.Prelude.{◌≡◌, ℕ, List, Some, None};
+ghost use Rattle.lb_model_paper.specs.BestBreaks.{Admitted, IsBest, IsBestOf, Paragraph, best_of, last_of};
+
+/// The best list is the best of all lists whose lines may be chosen: of no other one are fewer lines bad,
+/// or as many, and then the demerits less, or as high, and then the last break earlier, and so on going
+/// back. There is none exactly where no list has only such lines.
+pub fn best_of_all()
+    ensures best { (p : Paragraph) → IsBestOf p (best_of p) }
+    ensures only { (p : Paragraph) (x : List ℕ) → IsBest p x → best_of p ≡ Some x }
+    ensures none { (p : Paragraph) → ((y : List ℕ) → Admitted p y → last_of y ≡ p.count → ⊥) → best_of p ≡ None }
+{}
