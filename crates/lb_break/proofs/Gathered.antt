@@ -176,3 +176,6 @@ small-more points fresh j a s at = record {
   small = All-append IsSmall points fresh a.small s;
   below = All-append (λ n. n.at < j + 1) points fresh (λ k d h. omega (arith, a.below k d h)) (λ k d h. omega (arith, at k d h));
 }
+
+pub small-skip : (points : List Breakpoint) (j : ℕ) → AreSmall points j → AreSmall points (j + 1)
+small-skip points j a = record { small = a.small; below = λ k d h. omega (arith, a.below k d h) }

@@ -1,4 +1,5 @@
 pub mod Charts
+pub mod Found
 pub mod Gathered
 pub mod Least
 pub mod Orders

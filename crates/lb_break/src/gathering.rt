@@ -54,7 +54,7 @@ fn extend(
 ) -> Option<Breakpoint>
     requires measured { IsMeasured measured.now }
     requires small { AreSmall points.now j }
-    requires j { j ≤ (paragraph_in measured.now).count }
+    requires j { j ≤ length measured.now.list.now }
     requires index { index < length points.now }
     requires live { is_stopped (paragraph_in measured.now) (point_at points.now index).class (point_at points.now index).at j ≡ false }
     ensures value { result ≡ extended (paragraph_in measured.now) points.now j index }
@@ -113,7 +113,7 @@ fn consider(
 ) -> Result<(), AllocError>
     requires measured { IsMeasured measured.now }
     requires small { AreSmall points.now j }
-    requires j { j ≤ (paragraph_in measured.now).count }
+    requires j { j ≤ length measured.now.list.now }
     requires index { index < length points.now }
     requires long { length live.now ≡ length points.now }
     requires live { get_or live.now index false ≡ not (is_stopped (paragraph_in measured.now) (point_at points.now index).class (point_at points.now index).at j) }
@@ -140,7 +140,7 @@ pub fn gather(
 ) -> Result<Vec<Breakpoint>, AllocError>
     requires measured { IsMeasured measured.now }
     requires small { AreSmall points.now j }
-    requires j { j ≤ (paragraph_in measured.now).count }
+    requires j { j ≤ length measured.now.list.now }
     requires live { IsOpen (paragraph_in measured.now) points.now j begin live.now }
     requires begin { begin ≤ length points.now }
     ensures fresh { IfOk result (λ fresh. IsFresh (paragraph_in measured.now) points.now j fresh.items) }

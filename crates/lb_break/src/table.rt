@@ -37,7 +37,7 @@ fn visit(
 ) -> Result<usize, AllocError>
     requires measured { IsMeasured measured.now }
     requires some { 0 < j }
-    requires j { j ≤ (paragraph_in measured.now).count }
+    requires j { j ≤ length measured.now.list.now }
     requires visited { IsVisited (paragraph_in measured.now) points.old.items live.old.items begin j }
     ensures { IfOk result (λ begin. IsVisited (paragraph_in measured.now) points.new.items live.new.items begin (j + 1)) }
 {
@@ -56,7 +56,7 @@ fn visit(
 fn close(measured: &Measured, points: &[Breakpoint], live: &mut [bool], begin: usize, j: usize)
     requires measured { IsMeasured measured.now }
     requires small { AreSmall points.now j }
-    requires j { j ≤ (paragraph_in measured.now).count }
+    requires j { j ≤ length measured.now.list.now }
     requires live { IsOpen (paragraph_in measured.now) points.now j begin live.old }
     requires begin { begin ≤ length points.now }
     ensures { (q : ℕ) → begin ≤ q → q < length points.now → get_or live.new q false ≡ not (is_stopped (paragraph_in measured.now) (point_at points.now q).class (point_at points.now q).at (j + 1)) }
@@ -90,7 +90,7 @@ fn first_live(live: &[bool], begin: usize) -> usize
 fn grow(live: &mut Vec<bool>, count: usize) -> Result<(), AllocError>
     ensures { OnOk result (live.new.items ≡ live.old.items ++ replicate count true) }
 {
-    for _ in 0..count {
+    for _done in 0..count {
         live.push(true)?;
     }
     Ok(())

@@ -13,7 +13,8 @@ impl<'a> Measured<'a> {
     /// The number of the last break.
     #[tactic(auto, unfolding(lb_model_paper::specs::Breaks::paragraph_of))]
     pub fn count(&self) -> usize
-        ensures { result ≡ (paragraph_in self.now).count }
+        ensures value { result ≡ (paragraph_in self.now).count }
+        ensures items { result ≡ length self.now.list.now }
     {
         self.list.len()
     }
