@@ -1,13 +1,14 @@
-// A library with one function.
+//! The lines of paragraphs (TeXbook, chapters 12 and 14).
 #![tactic(auto)]
 
-ghost use Rattle.std.specs.Prelude.{◌≡◌};
-ghost use Rattle.lb_lines.specs.Echo.{echo_of};
+mod adding;
+mod cutting;
+mod glue;
+mod paragraph;
+mod parting;
+mod penalty;
+mod setting;
 
-// The `ensures` clause is the contract: what `echo` returns is `echo_of` of its argument, a definition
-// in `specs/Echo.antt`, which a caller's clause can cite too.
-pub fn echo(x: usize) -> usize
-    ensures { result ≡ echo_of x }
-{
-    x
-}
+pub use glue::append_line;
+pub use lb_model_paper::paragraph::{BreakEnd, BreakList, BreakRules, EndList, LineRules, Shape};
+pub use paragraph::lines;

@@ -22,13 +22,13 @@ use Rattle.lb_nodes.proofs.ShownLists.{shown-nil}
 
 -- ---- the discretionary at a break
 
-slice_get_is : (nodes : List Node) (k : ℕ) (node : Node) → k < length nodes → node ≡ get_or nodes k node → slice_get nodes k ≡ Some node
+pub slice_get_is : (nodes : List Node) (k : ℕ) (node : Node) → k < length nodes → node ≡ get_or nodes k node → slice_get nodes k ≡ Some node
 slice_get_is nodes k node within is = slice_get-get_or nodes k node within ∙ ap (λ (n : Node). Some n) (sym is)
 
-parts_at_is : (nodes : List Node) (k : ℕ) (node : Node) → k < length nodes → node ≡ get_or nodes k node → parts_at nodes (k + 1) ≡ parts_of node
+pub parts_at_is : (nodes : List Node) (k : ℕ) (node : Node) → k < length nodes → node ≡ get_or nodes k node → parts_at nodes (k + 1) ≡ parts_of node
 parts_at_is nodes k node within is = ap (parts_at nodes) (add-one k) ∙ ap parts_at_item (slice_get_is nodes k node within is)
 
-parts_of-disc : (node : Node) (parts : Discretionary) → node ≡ made.Disc parts → parts_of node ≡ Some parts
+pub parts_of-disc : (node : Node) (parts : Discretionary) → node ≡ made.Disc parts → parts_of node ≡ Some parts
 unfolding parts_of
 parts_of-disc node parts is = ap parts_in (ap out-Node is ∙ outs-Disc parts)
 
@@ -46,7 +46,7 @@ no_parts_in node (Mark mark) is other = refl
 no_parts_in node (Ins footnote) is other = refl
 no_parts_in node (Adjust material) is other = refl
 
-parts_of-other : (node : Node) → ((parts : Discretionary) → node ≡ made.Disc parts → ⊥) → parts_of node ≡ None
+pub parts_of-other : (node : Node) → ((parts : Discretionary) → node ≡ made.Disc parts → ⊥) → parts_of node ≡ None
 unfolding parts_of
 parts_of-other node other = no_parts_in node (out-Node node) refl other
 

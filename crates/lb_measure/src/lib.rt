@@ -11,5 +11,6 @@ mod measured;
 mod places;
 mod summing;
 
+pub use breaks::is_discardable;
 pub use limit::has_few_items;
 pub use measured::{Measured, measure};

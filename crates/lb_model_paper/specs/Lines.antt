@@ -1,6 +1,6 @@
 -- The lines of a paragraph as a vertical list (The TeXbook, chapter 14; tex.web, part 39), and the glue between lines (chapter 12).
 -- Lengths are in scaled points.
-use Rattle.std.specs.Prelude.{ℕ, zero, suc, ◌+◌, ◌-◌, Bool, true, false, not, ◌==◌, List, [], ◌∷◌, ◌++◌, filter, if◌then◌else◌, Option, None, Some, Result, Ok, Err, ℤ, pos, neg_ℤ, int_lt, int_le, ◌+ℤ◌, ◌-ℤ◌}
+use Rattle.std.specs.Prelude.{ℕ, zero, suc, ◌+◌, ◌<◌, ◌≤◌, Bool, true, false, ◌==◌, List, [], ◌∷◌, ◌++◌, length, if◌then◌else◌, Result, Ok, Err, ℤ, pos, neg_ℤ, int_lt, int_le, ◌+ℤ◌, ◌-ℤ◌}
 use Rattle.std.specs.Int.{int_max, int_min}
 use Rattle.lb_base.specs.declared.fault.Kind.{Kind}
 use Rattle.lb_base.specs.declared.fault.Kind.TheVariants.{DimenTooLarge}
@@ -65,45 +65,55 @@ penalty_behind rules is_first is_next_last is_broken =
 abbrev pub penalty_nodes : ℤ → List Node
 penalty_nodes penalty = if is_zero penalty then [] else roll-Node (Penalty penalty) ∷ []
 
-abbrev pub is_last_end : List BreakEnd → Bool
-is_last_end [] = false
-is_last_end (_ ∷ []) = true
-is_last_end (_ ∷ (_ ∷ _)) = false
-
--- between a line, to break j, and the lines behind it
-abbrev pub between_lines : BreakRules → List Node → Bool → ℕ → List BreakEnd → List Node
-between_lines rules nodes is_first j [] = []
-between_lines rules nodes is_first j (next ∷ rest) = penalty_nodes (penalty_behind rules is_first (is_last_end (next ∷ rest)) (is_disc_at nodes j))
+-- between a line and so many lines behind it
+abbrev pub penalty_between : BreakRules → Bool → ℕ → Bool → ℤ
+penalty_between rules is_first zero is_broken = pos 0
+penalty_between rules is_first (suc left) is_broken = penalty_behind rules is_first (left == 0) is_broken
 
 -- ---- the vertical list
 
--- Where one of two parts is too large, so is the whole; else the first fault counts, where there is one.
+-- of two faults a size that is too large counts, and else the first
+abbrev pub is_of_size : Kind → Bool
+is_of_size DimenTooLarge = true
+is_of_size _ = false
+
+abbrev pub worse : Kind → Kind → Kind
+worse first other = if is_of_size first then first else if is_of_size other then other else first
+
+-- two lists one behind the other, or why there are none
 abbrev pub joined : Result (List Node) Kind → Result (List Node) Kind → Result (List Node) Kind
 joined (Ok nodes) (Ok more) = Ok (nodes ++ more)
 joined (Ok nodes) (Err kind) = Err kind
-joined (Err DimenTooLarge) _ = Err DimenTooLarge
 joined (Err kind) (Ok more) = Err kind
-joined (Err kind) (Err DimenTooLarge) = Err DimenTooLarge
-joined (Err kind) (Err _) = Err kind
+joined (Err kind) (Err other) = Err (worse kind other)
 
 abbrev pub boxed_line : Result Boxed Kind → List Node → Result (List Node) Kind
 boxed_line (Ok box) behind = Ok (roll-Node (InnerBox box) ∷ behind)
 boxed_line (Err kind) behind = Err kind
 
--- the line from break i to break j as a box, and what moves out of it
-unfoldable pub set_line : Shape → List Node → ℕ → ℕ → Result (List Node) Kind
-set_line shape nodes i j =
-    boxed_line (packs Horizontal (staying (line_items shape nodes i j)) (To shape.width)) (moving (line_items shape nodes i j))
+-- a line of these items as a box, and what moves out of it
+abbrev pub set_items : ℤ → List Node → Result (List Node) Kind
+set_items width items = boxed_line (packs Horizontal (staying items) (To width)) (moving items)
 
-abbrev pub lines_from : Shape → List Node → Bool → ℕ → List BreakEnd → Result (List Node) Kind
-lines_from shape nodes is_first i [] = Ok []
-lines_from shape nodes is_first i (end ∷ ends) =
-    joined (joined (set_line shape nodes i (end.item + 1)) (Ok (between_lines shape.rules nodes is_first (end.item + 1) ends)))
-        (lines_from shape nodes false (end.item + 1) ends)
+-- the line from break i to break j, before so many lines; the first line is that from the start
+unfoldable pub set_line : Shape → List Node → ℕ → ℕ → ℕ → Result (List Node) Kind
+set_line shape nodes i j left =
+    joined (set_items shape.width (line_items shape nodes i j)) (Ok (penalty_nodes (penalty_between shape.rules (i == 0) left (is_disc_at nodes j))))
+
+-- the lines from break i on
+abbrev pub lines_from : Shape → List Node → ℕ → List BreakEnd → Result (List Node) Kind
+lines_from shape nodes i [] = Ok []
+lines_from shape nodes i (end ∷ ends) =
+    joined (set_line shape nodes i (end.item + 1) (length ends)) (lines_from shape nodes (end.item + 1) ends)
 
 -- the lines that end at these items, or why there are none
 unfoldable pub lines_of : Shape → List Node → List BreakEnd → Result (List Node) Kind
-lines_of shape nodes ends = lines_from shape nodes true 0 ends
+lines_of shape nodes ends = lines_from shape nodes 0 ends
+
+-- the ends are items of the list, and rise
+abbrev pub AreEnds : List Node → ℕ → List BreakEnd → Type 0
+AreEnds nodes i [] = Unit {0}
+AreEnds nodes i (end ∷ ends) = (i ≤ end.item) × (end.item < length nodes) × AreEnds nodes (end.item + 1) ends
 
 -- ---- the glue between lines
 
@@ -120,7 +130,18 @@ glue_nodes glue = if is_small glue.width then Ok (glue_node glue ∷ []) else Er
 unfoldable pub interline : LineRules → ℤ → ℤ → Result (List Node) Kind
 interline rules prev height = if int_le prev (neg_ℤ (pos 65536000)) then Ok [] else glue_nodes (glue_between rules prev height)
 
--- a vertical list with one more box
-pub record Appended : Type 0 where
-  pub list : List Node
-  pub depth : ℤ
+-- a list with one more box, or why there is none
+abbrev pub behind_glue : List Node → Boxed → Result (List Node) Kind → Result (List Node) Kind
+behind_glue nodes box (Ok before) = Ok (nodes ++ before ++ roll-Node (InnerBox box) ∷ [])
+behind_glue nodes box (Err kind) = Err kind
+
+unfoldable pub appended : LineRules → List Node → Boxed → ℤ → Result (List Node) Kind
+appended rules nodes box prev = behind_glue nodes box (interline rules prev (out-Boxed box).height)
+
+-- the depth so far behind a box: its own
+abbrev pub depth_behind : Boxed → Result (List Node) Kind → Result ℤ Kind
+depth_behind box (Ok nodes) = Ok (out-Boxed box).depth
+depth_behind box (Err kind) = Err kind
+
+unfoldable pub new_depth : LineRules → Boxed → ℤ → Result ℤ Kind
+new_depth rules box prev = depth_behind box (interline rules prev (out-Boxed box).height)

@@ -23,3 +23,4 @@ pub use lb_base::{
     Target,
 };
 pub use packing::{hpack, vpack};
+pub use showing::shown;

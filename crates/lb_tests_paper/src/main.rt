@@ -1,4 +1,4 @@
-//! The layer of paper at work: scaled points, fonts, boxes and words. Each line of standard input is a
+//! The layer of paper at work: scaled points, fonts, boxes, words and paragraphs. Each line of standard input is a
 //! command, and what comes of it is shown. `oracle/paper.py` says the same of the same lines by
 //! itself.
 #![tactic(auto)]
@@ -10,12 +10,15 @@ mod fault;
 mod fonts;
 mod lists;
 mod making;
+mod nodes;
 mod number;
+mod paragraphs;
 mod stop;
 mod text;
 
 use fonts::Shelf;
 use lb_base::NodeList;
+use lb_model_paper::paragraph::Shape;
 use sqlite_items::Items;
 use std::io::{BufRead, BufReader};
 use std::rt::Files;
@@ -28,11 +31,12 @@ fn main(rt: HostRuntime) -> Result<(), Stop> {
         font: None,
     };
     let mut list: NodeList = Items::new(alloc);
+    let mut shape = paragraphs::book_shape();
     let mut out = String::new(alloc);
     for line in BufReader::new(alloc, rt.reader())?.lines(alloc) {
         let line = line?;
         let words: Vec<&str> = line.split_whitespace().collect(alloc)?;
-        run(&rt, &words, &mut shelf, &mut list, &mut out)?;
+        run(&rt, &words, &mut shelf, &mut list, &mut shape, &mut out)?;
         rt.print(&out)?;
         out.clear();
     }
@@ -45,6 +49,7 @@ fn run<R: Files + AllocGlobal>(
     words: &[&str],
     shelf: &mut Shelf,
     list: &mut NodeList,
+    shape: &mut Shape,
     out: &mut String,
 ) -> Result<(), Stop> {
     let alloc = rt.alloc();
@@ -54,6 +59,7 @@ fn run<R: Files + AllocGlobal>(
         || lists::change(alloc, words, list)?
         || boxes::show(alloc, words, list, out)?
         || text::show(alloc, words, &shelf.font, out)?
+        || paragraphs::run(alloc, words, shape, list, out)?
     {
         return Ok(());
     }
