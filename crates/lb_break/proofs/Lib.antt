@@ -3,6 +3,7 @@ pub mod Found
 pub mod Gathered
 pub mod Least
 pub mod Orders
+pub mod Rising
 pub mod Stops
 pub mod Trails
 pub mod Winners

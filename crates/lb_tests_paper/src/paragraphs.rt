@@ -9,7 +9,7 @@ use crate::number::{count, length};
 use crate::stop::Stop;
 use lb_base::{Glue, Listed, Node, NodeList, Order};
 use lb_break::break_paragraph;
-use lb_lines::{append_line, lines};
+use lb_lines::{are_ends, append_line, lines};
 use lb_model_paper::paragraph::{BreakEnd, BreakList, BreakRules, LineRules, Passes, Shape};
 use sqlite_items::Items;
 use std::alloc::Global;
@@ -198,7 +198,7 @@ fn show_lines(
     shape: &Shape,
     out: &mut String,
 ) -> Result<(), Stop> {
-    if !are_ends(list.len(), breaks.ends.as_slice()) {
+    if !are_ends(list, breaks) {
         return Err(Stop::Command);
     }
     let nodes = std::mem::replace(list, Items::new(alloc));
@@ -239,16 +239,4 @@ fn show_appended(
         }
         Err(stop) => show_fault(&stop, out),
     }
-}
-
-/// Whether these are items of a list of so many, and rise.
-fn are_ends(items: usize, ends: &[BreakEnd]) -> bool {
-    let mut next = 0;
-    for end in ends {
-        if end.item < next || items <= end.item {
-            return false;
-        }
-        next = end.item + 1;
-    }
-    true
 }
