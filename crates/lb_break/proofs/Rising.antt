@@ -28,7 +28,7 @@ ends-rise nodes p (j ∷ x) rest admitted within rise =
     let turned : reverse (ends_of p (j ∷ x)) ++ rest ≡ reverse (ends_of p x) ++ E ∷ rest =
     ap (λ (es : List BreakEnd). es ++ rest) (reverse-append (E ∷ []) (ends_of p x)) ∙ append_assoc (reverse (ends_of p x)) (E ∷ []) rest in
     subst (λ (es : List BreakEnd). AreEnds nodes 0 es) (sym turned)
-        (ends-rise nodes p x (E ∷ rest) admitted.2 before (first, inside, subst (λ (i : ℕ). AreEnds nodes i rest) same rise))
+    (ends-rise nodes p x (E ∷ rest) admitted.2 before (first, inside, subst (λ (i : ℕ). AreEnds nodes i rest) same rise))
 
 abbrev pub Rise : List Node → Option BreakList → Type 0
 Rise nodes found = IfSome found (λ breaks. AreEnds nodes 0 breaks.ends)

@@ -46,12 +46,7 @@ fn marks(line: Judged) -> usize
 }
 
 /// The breakpoint that a line to break `j` makes of the one at `index`, from which lines still go on.
-fn extend(
-    measured: &Measured,
-    points: &[Breakpoint],
-    j: usize,
-    index: usize,
-) -> Option<Breakpoint>
+fn extend(measured: &Measured, points: &[Breakpoint], j: usize, index: usize) -> Option<Breakpoint>
     requires measured { IsMeasured measured.now }
     requires small { AreSmall points.now j }
     requires j { j ≤ length measured.now.list.now }
@@ -68,13 +63,7 @@ fn extend(
 }
 
 /// The breakpoint that a line makes of another.
-fn step(
-    measured: &Measured,
-    point: Breakpoint,
-    line: Judged,
-    j: usize,
-    index: usize,
-) -> Breakpoint
+fn step(measured: &Measured, point: Breakpoint, line: Judged, j: usize, index: usize) -> Breakpoint
     requires small { IsSmall point }
     requires line { IsLine line }
     requires at { point.at < j }

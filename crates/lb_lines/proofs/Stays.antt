@@ -148,9 +148,10 @@ parted-moves stay moved pending rest more out all node next none goes moved_is i
 
 pub parted-end : (stay moved pending all : List Node) → pending ≡ [] → AreParted stay moved pending all → (stay ≡ staying (shown all)) × (moved ≡ moving (shown all))
 parted-end stay moved pending all none before =
-    let end : shown (reverse pending) ≡ [] = ap (λ (ns : List Node). shown (reverse ns)) none ∙ shown-nil in
-    (sym (append-nil stay) ∙ ap (λ (ns : List Node). stay ++ staying ns) (sym end) ∙ before.stay_all,
-     sym (append-nil moved) ∙ ap (λ (ns : List Node). moved ++ moving ns) (sym end) ∙ before.moved_all)
+    let end : shown (reverse pending) ≡ [] = ap (λ (ns : List Node). shown (reverse ns)) none ∙ shown-nil in (
+      sym (append-nil stay) ∙ ap (λ (ns : List Node). stay ++ staying ns) (sym end) ∙ before.stay_all,
+      sym (append-nil moved) ∙ ap (λ (ns : List Node). moved ++ moving ns) (sym end) ∙ before.moved_all,
+    )
 
 -- ---- lists of which all stays
 

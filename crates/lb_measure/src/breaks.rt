@@ -61,7 +61,11 @@ fn is_empty(nodes: &[Node]) -> bool
 fn unbarred(penalty: i32) -> Option<i32>
     ensures { result ≡ unbarred penalty }
 {
-    if penalty < BARRED { Some(penalty) } else { None }
+    if penalty < BARRED {
+        Some(penalty)
+    } else {
+        None
+    }
 }
 
 /// The penalty of a break at a node, or nothing where it is no legal break. `solid` tells whether a

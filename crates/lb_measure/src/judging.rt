@@ -76,7 +76,11 @@ fn fitness_by(excess: i64, badness: u32) -> Fitness
     ensures { result ≡ fitness_by excess badness }
 {
     if excess < 0 {
-        if badness > 12 { Fitness::Tight } else { Fitness::Decent }
+        if badness > 12 {
+            Fitness::Tight
+        } else {
+            Fitness::Decent
+        }
     } else if badness > 99 {
         Fitness::VeryLoose
     } else if badness > 12 {

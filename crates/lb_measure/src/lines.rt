@@ -106,7 +106,14 @@ impl<'a> Measured<'a> {
             is_last: j == self.list.len(),
         };
         let sums = self.sums(i, j);
-        judged_line(&self.shape, self.tolerance, self.keeps_bad, penalty, ends, &sums)
+        judged_line(
+            &self.shape,
+            self.tolerance,
+            self.keeps_bad,
+            penalty,
+            ends,
+            &sums,
+        )
     }
 
     /// Whether break `j` bars all longer lines from break `i`.

@@ -272,7 +272,7 @@ judged_line shape pass penalty from_disc to_disc is_last sums =
     let excess = excess_in shape sums in
     let badness = badness_by excess sums in
     judged_by (line_demerits shape.rules badness penalty from_disc to_disc is_last) (fitness_by excess badness)
-        (verdict_by pass (is_overfull_by excess sums.shrink) (int_le penalty (neg_ℤ (pos 10000))) badness)
+    (verdict_by pass (is_overfull_by excess sums.shrink) (int_le penalty (neg_ℤ (pos 10000))) badness)
 
 abbrev pub line_at : Shape → Pass → List Node → ℕ → ℕ → Option ℤ → Option Judged
 line_at shape pass nodes i j None = None

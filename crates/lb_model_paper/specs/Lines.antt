@@ -57,9 +57,9 @@ held_penalty penalty = int_max (neg_ℤ (pos 2147483648)) (int_min penalty (pos 
 abbrev pub penalty_behind : BreakRules → Bool → Bool → Bool → ℤ
 penalty_behind rules is_first is_next_last is_broken =
     held_penalty (rules.interline_penalty
-        +ℤ ((if is_first then rules.club_penalty else pos 0)
-        +ℤ ((if is_next_last then rules.widow_penalty else pos 0)
-        +ℤ (if is_broken then rules.broken_penalty else pos 0))))
+    +ℤ ((if is_first then rules.club_penalty else pos 0)
+    +ℤ ((if is_next_last then rules.widow_penalty else pos 0)
+    +ℤ (if is_broken then rules.broken_penalty else pos 0))))
 
 -- it stands where it is not 0
 abbrev pub penalty_nodes : ℤ → List Node

@@ -10,12 +10,26 @@ use Rattle.lb_measure.proofs.Measures.{place-disc, place-other}
 use Rattle.lb_measure.proofs.places.place_of.Goals as goal
 
 pub disc_place-requires-clause-pre : goal.disc_place-requires-clause-pre
-disc_place-requires-clause-pre c = omega (arith, c.requires.few, ap (λ (d : Discretionary). items_in (out-Discretionary d).pre_break) c.get.ensures, count_of_disc_is c.in-Disc.parts, count_of-disc c.index-list-k.result c.in-Disc.parts c.in-Disc.is,
-    items_in-drop c.args.list.now c.args.k c.index-list-k.result c.requires.within c.index-list-k.is, items_in-below c.args.list.now c.args.k)
+disc_place-requires-clause-pre c = omega (
+  arith,
+  c.requires.few,
+  ap (λ (d : Discretionary). items_in (out-Discretionary d).pre_break) c.get.ensures,
+  count_of_disc_is c.in-Disc.parts,
+  count_of-disc c.index-list-k.result c.in-Disc.parts c.in-Disc.is,
+  items_in-drop c.args.list.now c.args.k c.index-list-k.result c.requires.within c.index-list-k.is,
+  items_in-below c.args.list.now c.args.k,
+)
 
 pub disc_place-requires-clause-post : goal.disc_place-requires-clause-post
-disc_place-requires-clause-post c = omega (arith, c.requires.few, ap (λ (d : Discretionary). items_in (out-Discretionary d).post_break) c.get.ensures, count_of_disc_is c.in-Disc.parts, count_of-disc c.index-list-k.result c.in-Disc.parts c.in-Disc.is,
-    items_in-drop c.args.list.now c.args.k c.index-list-k.result c.requires.within c.index-list-k.is, items_in-below c.args.list.now c.args.k)
+disc_place-requires-clause-post c = omega (
+  arith,
+  c.requires.few,
+  ap (λ (d : Discretionary). items_in (out-Discretionary d).post_break) c.get.ensures,
+  count_of_disc_is c.in-Disc.parts,
+  count_of-disc c.index-list-k.result c.in-Disc.parts c.in-Disc.is,
+  items_in-drop c.args.list.now c.args.k c.index-list-k.result c.requires.within c.index-list-k.is,
+  items_in-below c.args.list.now c.args.k,
+)
 
 pub returns-in-Disc : goal.returns-in-Disc
 returns-in-Disc c =
