@@ -1,9 +1,12 @@
+pub mod BestBreaks
 pub mod Boxes
+pub mod Breaks
 pub mod Dvi
 pub mod FontFiles
 pub mod FontRules
 pub mod Fonts
 pub mod FoundFonts
+pub mod Lines
 pub mod Marks
 pub mod Nodes
 pub mod Rows

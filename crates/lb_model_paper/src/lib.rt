@@ -2,4 +2,5 @@
 //! files.
 #![tactic(auto)]
 
+pub mod paragraph;
 pub mod rows;

@@ -1,0 +1,9 @@
+pub mod Charts
+pub mod Found
+pub mod Gathered
+pub mod Least
+pub mod Orders
+pub mod Rising
+pub mod Stops
+pub mod Trails
+pub mod Winners

@@ -1,0 +1,6 @@
+pub mod Gluing
+pub mod Joins
+pub mod Penalties
+pub mod Refusals
+pub mod Stays
+pub mod Takes
