@@ -1,0 +1,6 @@
+mod Adding
+mod Fits
+mod Opening
+mod OrderAmounts
+mod Standing
+mod Totalling
