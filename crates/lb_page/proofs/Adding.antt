@@ -13,16 +13,16 @@ use Rattle.lb_page.proofs.Opening.{opened-push}
 use Rattle.lb_page.proofs.Standing.{fronts_pass-push, on_page-top, pushed-more, pushed-top, without_top-push}
 use Rattle.lb_page.proofs.Totalling.{small_sums-are}
 
-begun_no : (b d : Bool) → not (b || not d) ≡ true → b ≡ false
+pub begun_no : (b d : Bool) → not (b || not d) ≡ true → b ≡ false
 begun_no true d goes = absurd (cc)
 begun_no false d goes = refl
 
-discardable_yes : (b d : Bool) → not (b || not d) ≡ true → d ≡ true
+pub discardable_yes : (b d : Bool) → not (b || not d) ≡ true → d ≡ true
 discardable_yes true d goes = absurd (cc)
 discardable_yes false true goes = refl
 discardable_yes false false goes = absurd (cc)
 
-stays_yes : (b d : Bool) → not (b || not d) ≡ false → (b || not d) ≡ true
+pub stays_yes : (b d : Bool) → not (b || not d) ≡ false → (b || not d) ≡ true
 stays_yes true d stays = refl
 stays_yes false true stays = absurd (cc)
 stays_yes false false stays = refl
@@ -30,7 +30,7 @@ stays_yes false false stays = refl
 is_firm-push : (front : List Node) (node : Node) → is_firm (front ++ node ∷ []) ≡ not (is_discardable node)
 is_firm-push front node = fold_push (λ (b : Bool) (n : Node). not (is_discardable n)) false front node
 
-some_left : (xs : List Node) (node : Node) → is_some_left (xs ++ node ∷ []) ≡ true
+pub some_left : (xs : List Node) (node : Node) → is_some_left (xs ++ node ∷ []) ≡ true
 some_left [] node = refl
 some_left (x ∷ xs) node = refl
 
@@ -60,7 +60,7 @@ left_more : (rules : PageRules) (front : List Node) (node : Node) (old : SoFar) 
 left_more rules front node old d stays is so_far =
     without_top-push front node ∙ pushed-more (without_top front) node (ap (λ (b : Bool). b || not (is_discardable node)) (sym so_far.begun) ∙ ap (λ (b : Bool). old.begun || not b) (sym is) ∙ stays_yes old.begun d stays)
 
-on_page-opened : (rules : PageRules) (front : List Node) (node : Node) → without_top (front ++ node ∷ []) ≡ without_top front ++ node ∷ [] → on_page rules (front ++ node ∷ []) ≡ opened rules (without_top front) node ++ node ∷ []
+pub on_page-opened : (rules : PageRules) (front : List Node) (node : Node) → without_top (front ++ node ∷ []) ≡ without_top front ++ node ∷ [] → on_page rules (front ++ node ∷ []) ≡ opened rules (without_top front) node ++ node ∷ []
 unfolding on_page
 on_page-opened rules front node left = ap (with_top_glue rules) left ∙ opened-push rules (without_top front) node
 

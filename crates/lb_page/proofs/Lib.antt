@@ -1,6 +1,12 @@
 mod Adding
+mod BestPlaces
+mod Ending
+mod Filled
 mod Fits
+mod Given
 mod Opening
 mod OrderAmounts
 mod Standing
+mod Stepping
 mod Totalling
+mod Waiting

@@ -24,23 +24,23 @@ push_by rules nodes node None is = push_other rules nodes node (is_block node) r
 pub opened-push : (rules : PageRules) (nodes : List Node) (node : Node) → with_top_glue rules (nodes ++ node ∷ []) ≡ opened rules nodes node ++ node ∷ []
 opened-push rules nodes node = push_by rules nodes node (first_width rules nodes) refl
 
-opened-there : (rules : PageRules) (nodes : List Node) (node : Node) (o : Option ℤ) → is_some o ≡ true → opened_by rules nodes node o ≡ with_top_glue rules nodes
+pub opened-there : (rules : PageRules) (nodes : List Node) (node : Node) (o : Option ℤ) → is_some o ≡ true → opened_by rules nodes node o ≡ with_top_glue rules nodes
 opened-there rules nodes node (Some width) some = refl
 opened-there rules nodes node None some = absurd (cc)
 
-opened-other : (rules : PageRules) (nodes : List Node) (node : Node) (o : Option ℤ) → is_block node ≡ false → opened_by rules nodes node o ≡ with_top_glue rules nodes
+pub opened-other : (rules : PageRules) (nodes : List Node) (node : Node) (o : Option ℤ) → is_block node ≡ false → opened_by rules nodes node o ≡ with_top_glue rules nodes
 opened-other rules nodes node (Some width) other = refl
 opened-other rules nodes node None other = ap (λ (b : Bool). if b then with_top_glue rules nodes ++ top_glue rules node ∷ [] else with_top_glue rules nodes) other
 
-opened-first : (rules : PageRules) (nodes : List Node) (node : Node) (o : Option ℤ) → is_some o ≡ false → is_block node ≡ true → opened_by rules nodes node o ≡ with_top_glue rules nodes ++ top_glue rules node ∷ []
+pub opened-first : (rules : PageRules) (nodes : List Node) (node : Node) (o : Option ℤ) → is_some o ≡ false → is_block node ≡ true → opened_by rules nodes node o ≡ with_top_glue rules nodes ++ top_glue rules node ∷ []
 opened-first rules nodes node (Some width) none is = absurd (cc)
 opened-first rules nodes node None none is = ap (λ (b : Bool). if b then with_top_glue rules nodes ++ top_glue rules node ∷ [] else with_top_glue rules nodes) is
 
-width-there : (rules : PageRules) (nodes : List Node) (node : Node) (o : Option ℤ) → is_some o ≡ true → o ≡ first_width rules nodes → first_width rules (nodes ++ node ∷ []) ≡ first_width rules nodes
+pub width-there : (rules : PageRules) (nodes : List Node) (node : Node) (o : Option ℤ) → is_some o ≡ true → o ≡ first_width rules nodes → first_width rules (nodes ++ node ∷ []) ≡ first_width rules nodes
 width-there rules nodes node (Some width) some is = first_width-push_later rules nodes node width (sym is)
 width-there rules nodes node None some is = absurd (cc)
 
-none_from : (o : Option ℤ) → is_some o ≡ false → o ≡ None
+pub none_from : (o : Option ℤ) → is_some o ≡ false → o ≡ None
 none_from (Some width) none = absurd (cc)
 none_from None none = refl
 

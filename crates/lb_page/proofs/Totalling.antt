@@ -86,7 +86,7 @@ glue_no_block : (glue : Glue) → is_block (GlueNode glue) ≡ false
 unfolding is_block
 glue_no_block glue = ap is_block_in (outs-Glue glue)
 
-glue_no_foot : (glue : Glue) → is_foot (GlueNode glue) ≡ false
+pub glue_no_foot : (glue : Glue) → is_foot (GlueNode glue) ≡ false
 unfolding is_foot
 glue_no_foot glue = ap is_foot_in (outs-Glue glue)
 

@@ -60,6 +60,7 @@ pub record AreReady (sums : Sums) : Type 0 where
 pub record AreReadyBy (rules : PageRules) (sums : Sums) : Type 0 where
   pub ready : AreReady sums
   pub total : IsSmall (sums.room -ℤ hangs rules sums.hanging)
+  pub hanging : IsSmall (hangs rules sums.hanging)
 
 -- the goal and the cost of a page with these sums
 abbrev pub goal_in : PageRules → Sums → ℤ

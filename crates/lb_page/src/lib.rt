@@ -2,10 +2,19 @@
 #![tactic(auto)]
 
 mod amounts;
+mod best;
+mod end;
+mod filling;
+mod giving;
 mod costs;
 mod kinds;
+mod pages;
+mod page_list;
 mod places;
+mod search;
 mod so_far;
 mod sums;
 
+pub use pages::next_page;
+pub use page_list::{PageList, contribute};
 pub use lb_model_paper::pages::{Cost, PagePart, PageRules};

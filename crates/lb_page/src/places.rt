@@ -2,6 +2,7 @@
 ghost use Rattle.std.specs.Prelude.{◌≡◌, ◌<ℤ◌, pos, IfSome, List, Option, None, Some, if◌then◌else◌};
 ghost use Rattle.lb_base.specs.declared.node.Node.{Node as TheNode};
 ghost use Rattle.lb_model_paper.specs.Pages.{is_begun, is_explicit, is_firm, is_glue, penalty_of};
+ghost use Rattle.lb_page.specs.Waits.{waits};
 
 use lb_base::{KernOrigin, Node};
 
@@ -46,6 +47,17 @@ pub fn is_glue(node: &Node) -> bool
 {
     match node {
         Node::Glue(_) => true,
+        _ => false,
+    }
+}
+
+/// Whether it must be known what stands behind a node: it is a kern, and a place only before glue.
+#[tactic(auto, unfolding(crate::specs::Waits::waits))]
+pub fn waits(node: &Node) -> bool
+    ensures { result ≡ waits node.now }
+{
+    match node {
+        Node::Kern { origin, .. } => is_explicit(*origin),
         _ => false,
     }
 }

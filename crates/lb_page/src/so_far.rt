@@ -96,7 +96,7 @@ impl SoFar {
 }
 
 /// Whether a node goes: nothing stands on the page before it, and it is a discardable.
-fn goes_at_top(begun: bool, discardable: bool) -> bool
+pub fn goes_at_top(begun: bool, discardable: bool) -> bool
     ensures { result ≡ not (begun || not discardable) }
 {
     !begun && discardable

@@ -136,6 +136,7 @@ impl Sums {
         ensures value { result ≡ small_lengths rules.now self.now }
         ensures ready { OnTrue result (AreReadyLengths self.now) }
         ensures total { OnTrue result (IsSmall (self.now.room -ℤ hangs rules.now self.now.hanging)) }
+        ensures hanging { OnTrue result (IsSmall (hangs rules.now self.now.hanging)) }
     {
         let hangs = i64::from(self.hangs(rules));
         are_all_small(self.room - hangs, hangs, self.right, self.feet_size)

@@ -27,3 +27,8 @@ pub returns-clause-total : goal.returns-clause-total
 returns-clause-total c = OnTrue_from c.are_all_small.result _ (λ yes.
     let first = OnTrue_at yes c.are_all_small.ensures.first in
     record { low = omega (arith, ints); high = omega (arith, ints) })
+
+pub returns-clause-hanging : goal.returns-clause-hanging
+returns-clause-hanging c = OnTrue_from c.are_all_small.result _ (λ yes.
+    let second = OnTrue_at yes c.are_all_small.ensures.second in
+    record { low = omega (arith, ints); high = omega (arith, ints) })
