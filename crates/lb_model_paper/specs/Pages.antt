@@ -310,9 +310,14 @@ ends_from end (suc pages) nodes = elim (end nodes) [
 ]
 
 -- `\vfil`, and a forced place
+abbrev pub fil_glue : Node
+fil_glue = GlueNode (record { width = pos 0; stretch = pos 65536; stretch_order = Fil; shrink = pos 0; shrink_order = Finite })
+
+abbrev pub forced_place : Node
+forced_place = PenaltyNode (neg_ℤ (pos 10000))
+
 abbrev pub closed_by : List Node → List Node
-closed_by nodes =
-    nodes ++ GlueNode (record { width = pos 0; stretch = pos 65536; stretch_order = Fil; shrink = pos 0; shrink_order = Finite }) ∷ PenaltyNode (neg_ℤ (pos 10000)) ∷ []
+closed_by nodes = nodes ++ fil_glue ∷ forced_place ∷ []
 
 abbrev pub parts_by : PageRules → List Node → List ℕ → List PagePart
 parts_by rules nodes [] = []

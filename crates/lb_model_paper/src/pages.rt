@@ -1,6 +1,6 @@
 //! Pages: the rules by which they end, and what they hold. Lengths are in scaled points, 65536 to
 //! the point.
-use lb_base::{Glue, NodeList};
+use lb_base::{Glue, Listed, NodeList};
 
 /// The height that a page is filled to, the glue before its first box or rule, and how far its last
 /// one may hang below its bottom.
@@ -26,3 +26,5 @@ pub struct PagePart {
     pub feet: NodeList,
     pub goal: i64,
 }
+
+pub type PartList = Listed<PagePart>;

@@ -6,6 +6,7 @@ mod Fits
 mod Given
 mod Opening
 mod OrderAmounts
+mod Planning
 mod Standing
 mod Stepping
 mod Totalling

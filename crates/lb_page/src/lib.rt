@@ -11,10 +11,11 @@ mod kinds;
 mod pages;
 mod page_list;
 mod places;
+mod plan;
 mod search;
 mod so_far;
 mod sums;
 
-pub use pages::next_page;
+pub use pages::{flush, next_page};
 pub use page_list::{PageList, contribute};
-pub use lb_model_paper::pages::{Cost, PagePart, PageRules};
+pub use lb_model_paper::pages::{Cost, PagePart, PageRules, PartList};
