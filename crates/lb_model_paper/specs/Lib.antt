@@ -4,6 +4,7 @@ pub mod FontFiles
 pub mod FontRules
 pub mod Fonts
 pub mod Nodes
+pub mod PageBoxes
 pub mod Pages
 pub mod Rows
 pub mod Texts

@@ -1,6 +1,6 @@
 //! Pages: the rules by which they end, and what they hold. Lengths are in scaled points, 65536 to
 //! the point.
-use lb_base::{Glue, Listed, NodeList};
+use lb_base::{Boxed, Glue, Listed, NodeList};
 
 /// The height that a page is filled to, the glue before its first box or rule, and how far its last
 /// one may hang below its bottom.
@@ -28,3 +28,37 @@ pub struct PagePart {
 }
 
 pub type PartList = Listed<PagePart>;
+
+/// Which of head and foot a page has: the styles are `empty`, `plain`, and `headings` or
+/// `myheadings`.
+#[derive(Clone, Copy)]
+pub enum HeadFoot {
+    Neither,
+    Foot,
+    Head,
+}
+
+/// The lengths of a page. The margins are those of odd and of even pages.
+#[derive(Clone, Copy)]
+pub struct PageLengths {
+    pub textwidth: i32,
+    pub textheight: i32,
+    pub headheight: i32,
+    pub headsep: i32,
+    pub footskip: i32,
+    pub topmargin: i32,
+    pub oddsidemargin: i32,
+    pub evensidemargin: i32,
+}
+
+/// How a page looks: its number, the nodes that show it, which of head and foot it has, and the marks
+/// of its head, the left one on even and the right one on odd pages.
+#[derive(Drop)]
+pub struct PageLook {
+    pub number: i32,
+    pub digits: NodeList,
+    pub style: HeadFoot,
+    pub left: Option<Boxed>,
+    pub right: Option<Boxed>,
+    pub lengths: PageLengths,
+}

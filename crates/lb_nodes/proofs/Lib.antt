@@ -2,8 +2,11 @@ pub mod Amounts
 pub mod Endings
 pub mod NearestQuotients
 pub mod Nests
+pub mod Packs
 pub mod Plans
+pub mod Products
 pub mod Shifting
+pub mod ShownLaws
 pub mod ShownLists
 pub mod Totalling
 pub mod Walks

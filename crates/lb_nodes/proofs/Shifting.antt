@@ -1,18 +1,17 @@
 -- Where glue is set.
-use Rattle.std.proofs.Common.{◌≡◌, ℕ, zero, suc, ◌+◌, ◌<◌, ◌≤◌, Bool, true, false, cond, ◌&&◌, ◌==◌, ⊎_elim, List, [], ◌∷◌, ◌++◌, length, get_or, take, refl, ℤ, pos, negsuc, neg_ℤ, ◌+ℤ◌, ◌*ℤ◌, sym, ap, ◌∙◌, subst, w32, to_z, of_z, FitsSigned, arith}
+use Rattle.std.proofs.Common.{◌≡◌, ℕ, zero, suc, ◌+◌, ◌<◌, ◌≤◌, Bool, true, false, cond, ◌&&◌, ◌==◌, ⊎_elim, List, [], ◌∷◌, ◌++◌, length, get_or, take, refl, ℤ, pos, negsuc, neg_ℤ, ◌+ℤ◌, ◌*ℤ◌, sym, ap, ◌∙◌, subst, arith}
 use Rattle.std.proofs.lemmas.Bool.{cases_lt, ne_eqb}
 use Rattle.std.specs.Prelude.{int_lt}
 use Rattle.std.specs.List.{fold}
 use Rattle.std.specs.Int.{is_negative}
-use Rattle.std.proofs.lemmas.Int.{ints, to_z-of_z}
-use Rattle.std.proofs.lemmas.List.{length-take, take_more, take-take}
-use Rattle.lb_base.specs.declared.node.Axis.{Axis}
+use Rattle.std.proofs.lemmas.Int.{ints}
+use Rattle.std.proofs.lemmas.List.{take_more}
 use Rattle.lb_base.specs.declared.glue.GlueSet.{GlueSet}
 use Rattle.lb_base.specs.declared.node.Node.{Node}
-use Rattle.lb_model_paper.specs.Boxes.{AreSmallSums, give_of, is_overfull, nearest, shift_after, shift_behind}
+use Rattle.lb_model_paper.specs.Boxes.{give_of, is_overfull, nearest, shift_after, shift_behind}
 use Rattle.lb_model_paper.specs.Dvi.{IsSmall, is_zero}
 use Rattle.lb_model_paper.specs.Nodes.{place_of_order, shrink_of, stretch_of, total}
-use Rattle.lb_nodes.specs.Setting.{AreSmallGives, AreSmallShifts}
+use Rattle.lb_nodes.specs.Setting.{AreSmallShifts}
 use Rattle.lb_nodes.proofs.NearestQuotients.{nearest_no_excess, nearest_no_part}
 use Rattle.lb_nodes.proofs.Totalling.{total_push}
 
@@ -45,25 +44,6 @@ total-give_shrink set nodes negative = ap (λ (b : Bool). given_by b set nodes) 
 
 pub total-give_stretch : (set : GlueSet) (nodes : List Node) → is_negative set.excess ≡ false → total (give_of set) nodes ≡ total (stretch_of set.order) nodes
 total-give_stretch set nodes negative = ap (λ (b : Bool). given_by b set nodes) negative
-
--- what there is to give is small where the sums are
-AreSmallGives-by : (axis : Axis) (set : GlueSet) (nodes : List Node) (b : Bool) → is_negative set.excess ≡ b → AreSmallSums axis nodes → AreSmallGives set nodes
-AreSmallGives-by axis set nodes true negative sums k within =
-    let P : ℤ → Type 0 = λ z. IsSmall z in
-    subst P (sym (total-give_shrink set (take k nodes) negative)) (sums.shrink set.order k within)
-AreSmallGives-by axis set nodes false negative sums k within =
-    let P : ℤ → Type 0 = λ z. IsSmall z in
-    subst P (sym (total-give_stretch set (take k nodes) negative)) (sums.stretch set.order k within)
-
-pub AreSmallGives-from : (axis : Axis) (set : GlueSet) (nodes : List Node) → AreSmallSums axis nodes → AreSmallGives set nodes
-AreSmallGives-from axis set nodes sums = AreSmallGives-by axis set nodes (is_negative set.excess) refl sums
-
-pub AreSmallGives-take : (set : GlueSet) (nodes : List Node) (n : ℕ) → AreSmallGives set nodes → AreSmallGives set (take n nodes)
-AreSmallGives-take set nodes n small k within =
-    let first : k ≤ n = omega (arith, length-take n nodes) in
-    let inside : k ≤ length nodes = omega (arith, length-take n nodes) in
-    let P : List Node → Type 0 = λ ns. IsSmall (total (give_of set) ns) in
-    subst P (sym (take-take k n nodes first)) (small k inside)
 
 -- ---- no shift
 
@@ -119,19 +99,12 @@ AreSmallShifts-more set nodes k below here j most =
     let P : ℕ → Type 0 = λ i. IsSmall (shift_after set nodes i) in
     ⊎_elim (λ (less : j < k + 1). let bound : j ≤ k = omega arith in below j bound) (λ (more : k + 1 ≤ j). let last : k + 1 ≡ j = omega arith in subst P last here) (cases_lt j (k + 1))
 
--- ---- numbers as the code holds them in 32 bits
+-- ---- one turn of a sum
 
-pub sum_turn : (set : GlueSet) (nodes : List Node) (k : ℕ) (node : Node) (part give sum : ℤ) → k < length nodes → node ≡ get_or nodes k node → AreSmallGives set nodes → part ≡ total (give_of set) (take k nodes) → give ≡ give_of set node → (IsSmall (part +ℤ give) → sum ≡ part +ℤ give) → sum ≡ total (give_of set) (take (k + 1) nodes)
-sum_turn set nodes k node part give sum within is small part_is give_is sums =
-    let reached : k + 1 ≤ length nodes = omega arith in
-    let P : ℤ → Type 0 = λ z. IsSmall z in
-    let both : part +ℤ give ≡ total (give_of set) (take (k + 1) nodes) =
-    ap (λ (z : ℤ). z +ℤ give) part_is ∙ ap (λ (z : ℤ). total (give_of set) (take k nodes) +ℤ z) give_is ∙ sym (total-give_turn set nodes k node within is) in
-    sums (subst P (sym both) (small (k + 1) reached)) ∙ both
-
-pub shift_behind-held : (set : GlueSet) (part whole : ℤ) → FitsSigned w32 part → FitsSigned w32 whole → shift_behind set (to_z w32 (of_z w32 part)) (to_z w32 (of_z w32 whole)) ≡ shift_behind set part whole
-shift_behind-held set part whole fits_part fits_whole = ap (λ (z : ℤ). shift_behind set z (to_z w32 (of_z w32 whole))) (to_z-of_z w32 part fits_part) ∙ ap (λ (z : ℤ). shift_behind set part z) (to_z-of_z w32 whole fits_whole)
+pub sum_turn : (set : GlueSet) (nodes : List Node) (k : ℕ) (node : Node) (part give sum : ℤ) → k < length nodes → node ≡ get_or nodes k node → part ≡ total (give_of set) (take k nodes) → give ≡ give_of set node → sum ≡ part +ℤ give → sum ≡ total (give_of set) (take (k + 1) nodes)
+sum_turn set nodes k node part give sum within is part_is give_is sums =
+    sums ∙ ap (λ (z : ℤ). z +ℤ give) part_is ∙ ap (λ (z : ℤ). total (give_of set) (take k nodes) +ℤ z) give_is ∙ sym (total-give_turn set nodes k node within is)
 
 -- the shift of a part and of the whole of a list
-pub shift_after-held : (set : GlueSet) (nodes : List Node) (k : ℕ) (part whole : ℤ) → FitsSigned w32 part → FitsSigned w32 whole → part ≡ total (give_of set) (take k nodes) → whole ≡ total (give_of set) nodes → shift_behind set (to_z w32 (of_z w32 part)) (to_z w32 (of_z w32 whole)) ≡ shift_after set nodes k
-shift_after-held set nodes k part whole fits_part fits_whole part_is whole_is = shift_behind-held set part whole fits_part fits_whole ∙ ap (λ (z : ℤ). shift_behind set z whole) part_is ∙ ap (λ (z : ℤ). shift_behind set (total (give_of set) (take k nodes)) z) whole_is
+pub shift_after-is : (set : GlueSet) (nodes : List Node) (k : ℕ) (part whole : ℤ) → part ≡ total (give_of set) (take k nodes) → whole ≡ total (give_of set) nodes → shift_behind set part whole ≡ shift_after set nodes k
+shift_after-is set nodes k part whole part_is whole_is = ap (λ (z : ℤ). shift_behind set z whole) part_is ∙ ap (λ (z : ℤ). shift_behind set (total (give_of set) (take k nodes)) z) whole_is

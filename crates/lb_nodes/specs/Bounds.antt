@@ -15,3 +15,8 @@ pub record IsSumOfThree (z : ℤ) : Type 0 where
 pub record IsSumOfFive (z : ℤ) : Type 0 where
   pub low : neg_ℤ (pos 12884901888) ≤ℤ z
   pub high : z ≤ℤ pos 12884901888
+
+-- as large as the sum of 2^64 lengths can be
+pub record IsLongSum (z : ℤ) : Type 0 where
+  pub low : neg_ℤ (pos 39614081257132168796771975168) ≤ℤ z
+  pub high : z ≤ℤ pos 39614081257132168796771975168

@@ -1,5 +1,6 @@
--- When the glue of a box takes up exactly its excess.
-use Rattle.std.specs.Prelude.{◌≡◌, ◌≢◌, ◌⊎◌, List, [], ◌∷◌, ℤ, pos, ◌<ℤ◌, false}
+-- What the laws of lists and boxes speak of: lists without discretionaries, and when the glue of a box takes up exactly its
+-- excess.
+use Rattle.std.specs.Prelude.{◌≡◌, ◌≢◌, ◌⊎◌, All, List, [], ◌∷◌, None, ℤ, pos, ◌<ℤ◌, false}
 use Rattle.lb_base.specs.declared.glue.Glue.{Glue}
 use Rattle.lb_base.specs.declared.glue.GlueSet.{GlueSet}
 use Rattle.lb_base.specs.declared.glue.Order.TheVariants.{Finite}
@@ -8,6 +9,11 @@ use Rattle.lb_base.specs.declared.node.Axis.TheVariants.{Horizontal, Vertical}
 use Rattle.lb_base.specs.declared.node.Boxed.{Boxed, out-Boxed}
 use Rattle.lb_base.specs.declared.node.Node.{Node}
 use Rattle.lb_model_paper.specs.Boxes.{is_overfull}
+use Rattle.lb_model_paper.specs.Nodes.{unbroken_parts}
+
+-- each node of a list shows itself
+abbrev pub HasNoDiscretionary : List Node → Type 0
+HasNoDiscretionary nodes = All (λ node. unbroken_parts node ≡ None) nodes
 
 -- where there is nothing to take up; where the glue stretches, and has something to stretch; and where it shrinks, and has shrink
 -- enough

@@ -29,15 +29,6 @@ given_past given node = record { set = given.set; part = given.part +ℤ give_of
 abbrev pub shift_given : Given → ℤ
 shift_given given = shift_behind given.set given.part given.whole
 
--- what is given is small, and so is the shift
-pub record IsSmallGiven (given : Given) : Type 0 where
-  pub part : IsSmall given.part
-  pub shift : IsSmall (shift_given given)
-
--- what the first items of a list have to give is small, for each number of them
-abbrev pub AreSmallGives : GlueSet → List Node → Type 0
-AreSmallGives set nodes = (k : ℕ) → k ≤ length nodes → IsSmall (total (give_of set) (take k nodes))
-
 abbrev pub AreSmallShifts : GlueSet → List Node → Type 0
 AreSmallShifts set nodes = (k : ℕ) → k ≤ length nodes → IsSmall (shift_after set nodes k)
 

@@ -1,9 +1,8 @@
 //! Lists packed into boxes.
-ghost use Rattle.std.specs.Prelude.{◌≤◌, IfOk, OnOk, IfErr};
+ghost use Rattle.lb_base.specs.Answers.{Answers};
 ghost use Rattle.lb_base.specs.declared.node.Axis.TheVariants.{Horizontal, Vertical};
-ghost use Rattle.lb_model_paper.specs.Boxes.{IsPacked, IsSmallBox, nesting_of_list};
+ghost use Rattle.lb_model_paper.specs.Boxes.{packs};
 ghost use Rattle.lb_model_paper.specs.Nodes.{shown};
-ghost use Rattle.lb_nodes.specs.Packing.{IsPackStop};
 
 use crate::nesting::nests_within;
 use crate::plan::plan_of;
@@ -15,10 +14,7 @@ use std::alloc::Global;
 const DEEPEST: u16 = 500;
 
 fn pack(alloc: Global, axis: Axis, list: NodeList, target: Target) -> Result<Boxed, Stop>
-    ensures packed { IfOk result (λ box. IsPacked axis (shown list) target box) }
-    ensures small { OnOk result (IsSmallBox axis (shown list) target) }
-    ensures nesting { OnOk result (nesting_of_list (shown list) ≤ 500) }
-    ensures err { IfErr result (IsPackStop axis (shown list) target) }
+    ensures { Answers (packs axis (shown list) target) result }
 {
     let items = shown(alloc, list)?;
     let Some(plan) = plan_of(axis, items.as_slice(), target) else {
@@ -45,10 +41,7 @@ fn pack(alloc: Global, axis: Axis, list: NodeList, target: Target) -> Result<Box
 /// points or more in size, and `DepthLimit` exactly where none is and more than 500 boxes would
 /// stand inside one another. After an error the list is gone.
 pub fn hpack(alloc: Global, list: NodeList, target: Target) -> Result<Boxed, Stop>
-    ensures packed { IfOk result (λ box. IsPacked Horizontal (shown list) target box) }
-    ensures small { OnOk result (IsSmallBox Horizontal (shown list) target) }
-    ensures nesting { OnOk result (nesting_of_list (shown list) ≤ 500) }
-    ensures err { IfErr result (IsPackStop Horizontal (shown list) target) }
+    ensures { Answers (packs Horizontal (shown list) target) result }
 {
     pack(alloc, Axis::Horizontal, list, target)
 }
@@ -57,10 +50,7 @@ pub fn hpack(alloc: Global, list: NodeList, target: Target) -> Result<Boxed, Sto
 /// its last letter, ligature, rule or box is its own, unless a space stands behind that. The errors
 /// are those of [`hpack`].
 pub fn vpack(alloc: Global, list: NodeList, target: Target) -> Result<Boxed, Stop>
-    ensures packed { IfOk result (λ box. IsPacked Vertical (shown list) target box) }
-    ensures small { OnOk result (IsSmallBox Vertical (shown list) target) }
-    ensures nesting { OnOk result (nesting_of_list (shown list) ≤ 500) }
-    ensures err { IfErr result (IsPackStop Vertical (shown list) target) }
+    ensures { Answers (packs Vertical (shown list) target) result }
 {
     pack(alloc, Axis::Vertical, list, target)
 }

@@ -5,7 +5,6 @@ use Rattle.lb_base.specs.declared.glue.GlueSet.{GlueSet}
 use Rattle.lb_model_paper.specs.Boxes.{IsSmallBox}
 use Rattle.lb_nodes.specs.Setting.{AreSmallShifts}
 use Rattle.lb_nodes.proofs.Plans.{asked_size_is, AreSmallLengths-from, excess_of_is, IsSmallBox-from, set_of_is}
-use Rattle.lb_nodes.proofs.Shifting.{AreSmallGives-from}
 use Rattle.lb_nodes.proofs.plan.plan_of.Goals as goal
 
 pub returns-in_err-lengths-clause-large : goal.returns-in_err-lengths-clause-large
@@ -13,11 +12,8 @@ returns-in_err-lengths-clause-large c =
     let large : IsSmallBox c.args.axis c.args.nodes.now c.args.target → ⊥ = λ small. c.in_err-lengths.ensures.large (AreSmallLengths-from c.args.axis c.args.nodes.now c.in_ok-totals.totals c.args.target c.in_ok-totals.ensures.totals small) in
     search rules
 
-pub are_small_shifts-requires-clause-gives : goal.are_small_shifts-requires-clause-gives
-are_small_shifts-requires-clause-gives c = AreSmallGives-from c.args.axis c.glue_set-glue_set.result c.args.nodes.now c.in_ok-totals.ensures.sums
-
-pub are_small_shifts-requires-clause-whole : goal.are_small_shifts-requires-clause-whole
-are_small_shifts-requires-clause-whole c =
+pub are_small_shifts-requires : goal.are_small_shifts-requires
+are_small_shifts-requires c =
     let fits : FitsSigned w32 c.whole-whole.result = search rules in
     to_z-of_z w32 c.whole-whole.result fits ∙ c.whole-whole.ensures c.args.axis c.args.nodes.now c.in_ok-totals.ensures.totals
 
