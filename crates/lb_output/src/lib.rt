@@ -1,13 +1,10 @@
-// A library with one function.
+//! The box of a page: its head, its body, its footnotes and its foot.
 #![tactic(auto)]
 
-ghost use Rattle.std.specs.Prelude.{◌≡◌};
-ghost use Rattle.lb_output.specs.Echo.{echo_of};
+mod building;
+mod heights;
+mod running;
+mod whole;
 
-// The `ensures` clause is the contract: what `echo` returns is `echo_of` of its argument, a definition
-// in `specs/Echo.antt`, which a caller's clause can cite too.
-pub fn echo(x: usize) -> usize
-    ensures { result ≡ echo_of x }
-{
-    x
-}
+pub use lb_model_paper::pages::{HeadFoot, PageLengths, PageLook, PagePart};
+pub use whole::page_box;

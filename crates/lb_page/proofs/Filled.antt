@@ -42,7 +42,7 @@ items-first rules nodes node topped items more none block is same added =
     let some : is_some (first_width rules nodes) ≡ false = sym is ∙ none in
     let glue = top_glue rules node in (
       added ∙ ap (λ (ns : List Node). ns ++ glue ∷ []) same ∙ ap (λ (ns : List Node). filter stays (with_top_glue rules nodes) ++ ns) (sym (kept_alone glue (glue_no_foot _)))
-      ∙ sym (filter-append stays (with_top_glue rules nodes) (glue ∷ [])) ∙ ap (filter stays) (sym (opened-first rules nodes node (first_width rules nodes) some block)),
+          ∙ sym (filter-append stays (with_top_glue rules nodes) (glue ∷ [])) ∙ ap (filter stays) (sym (opened-first rules nodes node (first_width rules nodes) some block)),
       ap is_some (sym (first_width-push_first rules nodes node (none_from (first_width rules nodes) some) block)),
     )
 

@@ -63,10 +63,7 @@ impl Amounts {
         ensures value { result ≡ are_small_in (amount_in self.now) }
         ensures small { OnTrue result (AreSmallAmounts self.now) }
     {
-        is_small(self.finite)
-            && is_small(self.fil)
-            && is_small(self.fill)
-            && is_small(self.filll)
+        is_small(self.finite) && is_small(self.fil) && is_small(self.fill) && is_small(self.filll)
     }
 
     /// The amounts of all orders together.

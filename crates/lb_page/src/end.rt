@@ -32,7 +32,11 @@ fn next_of(nodes: &VecDeque<Node>, start: usize, at: usize) -> Option<(&Node, bo
         return None;
     };
     let Some(next) = node_at(nodes, start + at + 1) else {
-        return if waits(node) { None } else { Some((node, false)) };
+        return if waits(node) {
+            None
+        } else {
+            Some((node, false))
+        };
     };
     Some((node, is_glue(next)))
 }

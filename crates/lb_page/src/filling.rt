@@ -48,7 +48,7 @@ impl Filling {
         requires feet { vec_len self.old.feet < vec_capacity self.old.feet }
         ensures filling { (front : List TheNode) → IsFilling rules.now front self.old
             → (first_width rules.now (without_top front) ≡ None → is_block node ≡ true
-                → top ≡ Some (top_width rules.now node))
+            → top ≡ Some (top_width rules.now node))
             → IsFilling rules.now (front ++ node ∷ []) self.new }
         ensures items { vec_len self.new.items + spare self.new.topped ≤ vec_len self.old.items + spare self.old.topped + 1 }
         ensures feet { vec_len self.new.feet ≤ vec_len self.old.feet + 1 }

@@ -42,7 +42,9 @@ pub fn part_of(filling: Filling, cut: &Cut) -> PagePart
         → IsPageOf rules front cut.now → result ≡ page_of rules front }
 {
     let Filling {
-        mut items, feet, ..
+        mut items,
+        feet,
+        ..
     } = filling;
     close(&mut items, cut.closing);
     PagePart {

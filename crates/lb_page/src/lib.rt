@@ -3,19 +3,19 @@
 
 mod amounts;
 mod best;
+mod costs;
 mod end;
 mod filling;
 mod giving;
-mod costs;
 mod kinds;
-mod pages;
 mod page_list;
+mod pages;
 mod places;
 mod plan;
 mod search;
 mod so_far;
 mod sums;
 
-pub use pages::{flush, next_page};
-pub use page_list::{PageList, contribute};
 pub use lb_model_paper::pages::{Cost, PagePart, PageRules, PartList};
+pub use page_list::{PageList, contribute};
+pub use pages::{flush, next_page};

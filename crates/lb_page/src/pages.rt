@@ -8,8 +8,8 @@ ghost use Rattle.lb_page.specs.Searches.{IsKept, IsReady, IsRight};
 use crate::end::{advance, end_by};
 use crate::giving::give;
 use crate::page_list::PageList;
-use crate::search::Search;
 use crate::plan::{give_all, make_plan};
+use crate::search::Search;
 use lb_base::{Glue, Listed, Node, Order, Stop, equal_glue};
 use lb_model_paper::pages::{PagePart, PageRules, PartList};
 

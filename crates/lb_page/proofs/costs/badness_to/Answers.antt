@@ -27,4 +27,4 @@ returns-clause-badness c =
     let fits_finite : FitsSigned w64 finite = search rules in
     let value = c.badness.ensures.value ∙ ap (λ (z : ℤ). pos (badness_of z (held finite))) (to_z-of_z w64 c.args.excess fits_excess) ∙ ap (λ (z : ℤ). pos (badness_of c.args.excess z)) (to_z-of_z w64 finite fits_finite) in
     badness_to-stretching c.args.excess _ _ _ positive
-      (ap Some (to_z-of_z w32 c.badness.result fits ∙ value) ∙ ap (λ (b : Bool). if b then Some (pos 0) else Some (pos (badness_of c.args.excess finite))) (sym c.if-is_infinite.false ∙ c.is_infinite.ensures))
+    (ap Some (to_z-of_z w32 c.badness.result fits ∙ value) ∙ ap (λ (b : Bool). if b then Some (pos 0) else Some (pos (badness_of c.args.excess finite))) (sym c.if-is_infinite.false ∙ c.is_infinite.ensures))

@@ -12,8 +12,8 @@ returns-in-Err-clause-err c =
     let inv = c.pages.invariant in
     let items = c.args.nodes.now.items in
     ends-fault c.args.rules.now items (length items - length c.pages.plan.items) c.pages.plan.items _ c.in-Err.stop
-      (λ spent. sym inv.left ∙ drop_all c.pages.start items (omega (arith, inv.count, spent)))
-      (subst (λ ns. IsEnd c.args.rules.now ns (Err c.in-Err.stop)) inv.left c.in-Err.ensures) inv.ends
+    (λ spent. sym inv.left ∙ drop_all c.pages.start items (omega (arith, inv.count, spent)))
+    (subst (λ ns. IsEnd c.args.rules.now ns (Err c.in-Err.stop)) inv.left c.in-Err.ensures) inv.ends
 
 pub pages-preserved : goal.pages-preserved
 pages-preserved c =
