@@ -1,12 +1,11 @@
 -- The best place so far, one item more.
-use Rattle.std.proofs.Common.{◌≡◌, ◌∙◌, ap, sym, subst, refl, ℕ, suc, Bool, true, false, List, Option, None, Some, if◌then◌else◌}
-use Rattle.std.specs.Prelude.{option_map}
+use Rattle.std.proofs.Common.{◌≡◌, ◌∙◌, ap, sym, refl, ℕ, suc, Bool, true, false, List, Option, None, Some, if◌then◌else◌}
 use Rattle.lb_base.specs.declared.node.Node.{Node}
 use Rattle.lb_model_paper.specs.declared.pages.Cost.{Cost}
 use Rattle.lb_model_paper.specs.declared.pages.PageRules.{PageRules}
-use Rattle.lb_model_paper.specs.Pages.{best_place, cheaper_of, cost_at, costs_at_most, last_cheapest}
+use Rattle.lb_model_paper.specs.Pages.{best_place, cheaper_of, cost_at, costs_at_most}
 use Rattle.lb_page.specs.declared.best.Cut.{Cut}
-use Rattle.lb_page.specs.Places.{IsBest, IsCut, IsPlace, place_of_cut}
+use Rattle.lb_page.specs.Places.{IsBest, IsCut}
 
 best_place-suc : (rules : PageRules) (nodes : List Node) (n : ℕ) → best_place rules nodes (suc n) ≡ cheaper_of (cost_at rules nodes) (best_place rules nodes n) n (cost_at rules nodes n)
 unfolding best_place

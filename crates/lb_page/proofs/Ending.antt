@@ -1,9 +1,8 @@
 -- Where the page ends.
-use Rattle.std.proofs.Common.{◌≡◌, ◌∙◌, ap, sym, subst, refl, ⊎_elim, inl, inr, ℕ, suc, zero, ◌+◌, ◌-◌, ◌<◌, ◌≤◌, ℤ, pos, Bool, true, false, ◌&&◌, List, [], ◌∷◌, ◌++◌, length, take, drop, get_or, Option, None, Some, Result, Ok, Err, if◌then◌else◌, add-one, append-nil, arith}
+use Rattle.std.proofs.Common.{◌≡◌, ◌∙◌, ap, sym, subst, refl, ⊎_elim, inl, inr, ℕ, suc, zero, ◌+◌, ◌-◌, ◌<◌, ◌≤◌, ℤ, pos, Bool, true, false, ◌&&◌, List, [], ◌∷◌, ◌++◌, length, take, Option, None, Some, Ok, Err, if◌then◌else◌, append-nil, arith}
 use Rattle.std.proofs.lemmas.Bool.{cases_lt}
-use Rattle.std.proofs.lemmas.List.{take_all, take_more}
+use Rattle.std.proofs.lemmas.List.{take_all}
 use Rattle.std.specs.Prelude.{option_map, slice_get}
-use Rattle.lb_base.specs.declared.fault.Kind.{Kind}
 use Rattle.lb_base.specs.declared.fault.Kind.TheVariants.{DimenTooLarge}
 use Rattle.lb_base.specs.declared.node.Boxed.{Boxed}
 use Rattle.lb_base.specs.declared.node.Discretionary.{Discretionary}
@@ -17,8 +16,8 @@ use Rattle.lb_model_paper.specs.declared.pages.PageRules.{PageRules}
 use Rattle.lb_model_paper.specs.Pages.{are_small_on_page, are_small_totals, best_place, cost_at, ends_in, first_below, is_block, is_discardable, on_page, page_end, page_end_by, penalty_at, penalty_in, penalty_of, search_end, top_glue, with_top_glue, without_top}
 use Rattle.lb_page.specs.declared.best.Cut.{Cut}
 use Rattle.lb_page.specs.declared.search.Search.{Search}
-use Rattle.lb_page.specs.Ends.{IsEnd, IsEndAt}
-use Rattle.lb_page.specs.Places.{IsBest, IsCut, place_of_cut}
+use Rattle.lb_page.specs.Ends.{IsEnd}
+use Rattle.lb_page.specs.Places.{IsCut, place_of_cut}
 use Rattle.lb_page.specs.Searches.{IsEnded, IsGoing, IsJudged, IsLarge, IsLast, IsRight}
 use Rattle.lb_page.specs.SoFar.{first_width, opened, opened_by}
 use Rattle.lb_page.proofs.Opening.{opened-push}

@@ -1,10 +1,10 @@
 -- A page while its nodes are moved to it, one node more.
-use Rattle.std.proofs.Common.{◌≡◌, ◌∙◌, ap, sym, subst, refl, Bool, true, false, not, ◌||◌, List, [], ◌∷◌, ◌++◌, Option, None, Some, ℕ, ℤ, if◌then◌else◌, filter}
+use Rattle.std.proofs.Common.{◌≡◌, ◌∙◌, ap, sym, refl, Bool, true, false, not, ◌||◌, List, [], ◌∷◌, ◌++◌, Option, None, Some, ℤ, if◌then◌else◌, filter}
 use Rattle.std.proofs.lemmas.List.Elements.{filter-append}
 use Rattle.std.specs.Option.{is_some}
 use Rattle.lb_base.specs.declared.node.Node.{Node}
 use Rattle.lb_model_paper.specs.declared.pages.PageRules.{PageRules}
-use Rattle.lb_model_paper.specs.Pages.{is_begun, is_block, is_discardable, is_foot, is_some_left, on_page, top_glue, top_width, with_top_glue, without_top}
+use Rattle.lb_model_paper.specs.Pages.{is_begun, is_block, is_discardable, is_foot, is_some_left, on_page, top_glue, with_top_glue, without_top}
 use Rattle.lb_page.specs.declared.filling.Filling.{Filling}
 use Rattle.lb_page.specs.Fillings.{IsFilling, stays}
 use Rattle.lb_page.specs.SoFar.{first_width, opened, opened_by}

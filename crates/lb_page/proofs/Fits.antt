@@ -1,5 +1,5 @@
 -- How badly a page fits.
-use Rattle.std.proofs.Common.{◌≡◌, ◌∙◌, ap, sym, Bool, true, false, ℤ, pos, neg_ℤ, Option, None, Some, if◌then◌else◌, arith}
+use Rattle.std.proofs.Common.{◌≡◌, ◌∙◌, ap, sym, Bool, true, false, ℤ, pos, neg_ℤ, Option, None, Some, if◌then◌else◌}
 use Rattle.std.specs.Int.{is_negative}
 use Rattle.std.specs.Prelude.{int_lt}
 use Rattle.lb_base.specs.Badness.{badness_of}

@@ -1,8 +1,7 @@
 -- The page before a place, and what is left.
-use Rattle.std.proofs.Common.{◌≡◌, ◌∙◌, ap, sym, subst, refl, ℕ, suc, zero, ◌+◌, ◌-◌, ◌<◌, ◌≤◌, Bool, true, false, not, List, [], ◌∷◌, ◌++◌, length, take, drop, Option, None, Some, Result, Ok, Err, ℤ, if◌then◌else◌, filter, add-one, arith}
+use Rattle.std.proofs.Common.{◌≡◌, ◌∙◌, ap, sym, refl, ℕ, suc, zero, ◌+◌, ◌<◌, Bool, true, false, List, [], ◌∷◌, ◌++◌, take, drop, Option, None, Some, Ok, Err, ℤ, if◌then◌else◌, filter, arith}
 use Rattle.std.specs.Prelude.{option_map}
 use Rattle.lb_base.specs.Answers.{Answers}
-use Rattle.lb_base.specs.declared.fault.Kind.{Kind}
 use Rattle.lb_base.specs.declared.fault.Stop.{Stop}
 use Rattle.lb_base.specs.declared.fault.Stop.TheVariants.{At, Fault, Memory}
 use Rattle.lb_base.specs.declared.node.Boxed.{Boxed}
@@ -12,7 +11,7 @@ use Rattle.lb_base.specs.declared.node.HeadMark.TheOpen.{Adjust, Boxed as InnerB
 use Rattle.lb_base.specs.declared.node.Node.{Node, Node-F, out-Node}
 use Rattle.lb_model_paper.specs.declared.pages.PagePart.{PagePart}
 use Rattle.lb_model_paper.specs.declared.pages.PageRules.{PageRules}
-use Rattle.lb_model_paper.specs.Pages.{closing_kern, discards_in, is_block, is_block_in, is_discardable, is_foot, last_block_depth, left_in, next_part, nodes_left, on_page, page_end, page_goal, page_in, page_of, top_width, without_top}
+use Rattle.lb_model_paper.specs.Pages.{closing_kern, discards_in, is_block, is_block_in, is_discardable, is_foot, last_block_depth, left_in, next_part, nodes_left, on_page, page_end, page_in, page_of, top_width, without_top}
 use Rattle.lb_page.specs.declared.best.Cut.{Cut}
 use Rattle.lb_page.specs.declared.filling.Filling.{Filling}
 use Rattle.lb_page.specs.Ends.{IsEnd}

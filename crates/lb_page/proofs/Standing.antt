@@ -1,5 +1,5 @@
 -- What stands on a page, one node more.
-use Rattle.std.proofs.Common.{◌≡◌, ◌∙◌, ap, sym, refl, ⊎_elim, ◌⊎◌, inl, inr, Bool, true, false, not, ◌&&◌, ◌||◌, List, [], ◌∷◌, ◌++◌, take, length, Option, None, Some, ℕ, suc, zero, ◌+◌, ◌≤◌, ◌<◌, length-append, ℤ, if◌then◌else◌, append_assoc, arith}
+use Rattle.std.proofs.Common.{◌≡◌, ◌∙◌, ap, refl, Bool, true, false, not, ◌&&◌, ◌||◌, List, [], ◌∷◌, ◌++◌, take, length, Option, None, Some, ℕ, suc, zero, ◌+◌, ◌<◌, length-append, ℤ, if◌then◌else◌, arith}
 use Rattle.std.proofs.lemmas.List.{take_all, take-append-le}
 use Rattle.std.specs.List.{list_all, range_with_len}
 use Rattle.lb_base.specs.declared.node.Node.{Node}

@@ -1,5 +1,5 @@
 -- One item more is judged.
-use Rattle.std.proofs.Common.{◌≡◌, ◌∙◌, ap, sym, subst, refl, ℕ, suc, zero, ◌+◌, ◌<◌, ◌≤◌, Bool, true, false, not, List, [], ◌∷◌, ◌++◌, length, take, get_or, Option, None, Some, ℤ, pos, ◌-ℤ◌, if◌then◌else◌, add-one, arith}
+use Rattle.std.proofs.Common.{◌≡◌, ◌∙◌, ap, sym, subst, refl, ℕ, suc, ◌<◌, ◌≤◌, Bool, true, false, List, [], ◌∷◌, ◌++◌, length, take, Option, None, Some, ℤ, ◌-ℤ◌, if◌then◌else◌, add-one, arith}
 use Rattle.std.proofs.lemmas.List.{take_more}
 use Rattle.std.proofs.lemmas.Option.{get_or_from_slice_get, slice_get_within}
 use Rattle.std.specs.Prelude.{option_map, slice_get}
@@ -9,7 +9,7 @@ use Rattle.lb_base.specs.declared.node.Node.{Node}
 use Rattle.lb_model_paper.specs.declared.pages.Cost.{Cost}
 use Rattle.lb_model_paper.specs.declared.pages.PageRules.{PageRules}
 use Rattle.lb_model_paper.specs.Nodes.{shrink_of, stretch_of, total}
-use Rattle.lb_model_paper.specs.Pages.{are_small_on_page, badness_to, cost_at, cost_by, cost_of, ends_in, first_below, hangs, is_begun, is_firm, is_glue, on_page, page_goal, page_total, penalty_at, penalty_of, search_end}
+use Rattle.lb_model_paper.specs.Pages.{are_small_on_page, badness_to, cost_at, cost_by, cost_of, ends_in, hangs, is_begun, is_firm, is_glue, on_page, page_goal, page_total, penalty_at, penalty_of, search_end}
 use Rattle.lb_page.specs.declared.best.Cut.{Cut}
 use Rattle.lb_page.specs.declared.search.Search.{Search}
 use Rattle.lb_page.specs.declared.search.State.{State}
@@ -17,9 +17,9 @@ use Rattle.std.specs.Bool.{OnTrue}
 use Rattle.lb_page.specs.declared.so_far.SoFar.{SoFar}
 use Rattle.lb_page.specs.declared.sums.Sums.{Sums}
 use Rattle.lb_page.specs.Places.{closing_width, cost_of_cut, IsBest, IsCut, IsPlace}
-use Rattle.lb_page.specs.Searches.{IsEnded, IsGoing, IsJudged, IsJudgedAs, IsLarge, IsNext, IsReady, IsReadyAs, state_of}
+use Rattle.lb_page.specs.Searches.{IsGoing, IsJudged, IsJudgedAs, IsNext, IsReady, IsReadyAs, state_of}
 use Rattle.lb_page.specs.SoFar.{IsSoFar}
-use Rattle.lb_page.specs.Sums.{amount_in, AreReadyBy, AreSums, badness_in, cost_in, goal_in}
+use Rattle.lb_page.specs.Sums.{amount_in, AreReadyBy, AreSums, cost_in, goal_in}
 
 -- ---- costs
 

@@ -1,7 +1,7 @@
 -- Where a page ends, as the search finds it.
 use Rattle.std.specs.Prelude.{◌≡◌, ◌<◌, List, Option, None, Some, Result, Ok, Err, take, length}
 use Rattle.lb_base.specs.declared.fault.Stop.{Stop}
-use Rattle.lb_base.specs.declared.fault.Stop.TheVariants.{At, Fault, Memory}
+use Rattle.lb_base.specs.declared.fault.Stop.TheVariants.{Fault}
 use Rattle.lb_base.specs.declared.node.Node.{Node}
 use Rattle.lb_model_paper.specs.declared.pages.PageRules.{PageRules}
 use Rattle.lb_model_paper.specs.Pages.{page_end}

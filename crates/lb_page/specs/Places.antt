@@ -1,5 +1,5 @@
 -- Places as they are kept.
-use Rattle.std.specs.Prelude.{◌≡◌, ℕ, suc, ◌<◌, List, Option, None, Some, option_map, take, length, ℤ, neg_ℤ, IfSome}
+use Rattle.std.specs.Prelude.{◌≡◌, ℕ, ◌<◌, List, Option, None, Some, option_map, take, length, ℤ, neg_ℤ, IfSome}
 use Rattle.std.specs.Int.{int_min}
 use Rattle.lb_base.specs.declared.node.Node.{Node}
 use Rattle.lb_model_paper.specs.declared.pages.Cost.{Cost}

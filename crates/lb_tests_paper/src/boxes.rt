@@ -107,7 +107,7 @@ fn show_shifts(boxed: &Boxed, out: &mut String) -> Result<(), Stop> {
     Ok(())
 }
 
-fn last_shift(boxed: &Boxed) -> i32 {
+fn last_shift(boxed: &Boxed) -> i128 {
     let mut shifts = Shifts::over(boxed);
     let mut last = 0;
     for node in boxed.items.as_slice() {

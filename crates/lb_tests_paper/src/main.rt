@@ -11,11 +11,14 @@ mod fonts;
 mod lists;
 mod making;
 mod number;
+mod pages;
 mod stop;
 mod text;
+mod trees;
 
 use fonts::Shelf;
 use lb_base::NodeList;
+use pages::Pages;
 use sqlite_items::Items;
 use std::io::{BufRead, BufReader};
 use std::rt::Files;
@@ -28,11 +31,12 @@ fn main(rt: HostRuntime) -> Result<(), Stop> {
         font: None,
     };
     let mut list: NodeList = Items::new(alloc);
+    let mut pages = Pages::new(alloc);
     let mut out = String::new(alloc);
     for line in BufReader::new(alloc, rt.reader())?.lines(alloc) {
         let line = line?;
         let words: Vec<&str> = line.split_whitespace().collect(alloc)?;
-        run(&rt, &words, &mut shelf, &mut list, &mut out)?;
+        run(&rt, &words, &mut shelf, &mut list, &mut pages, &mut out)?;
         rt.print(&out)?;
         out.clear();
     }
@@ -45,6 +49,7 @@ fn run<R: Files + AllocGlobal>(
     words: &[&str],
     shelf: &mut Shelf,
     list: &mut NodeList,
+    pages: &mut Pages,
     out: &mut String,
 ) -> Result<(), Stop> {
     let alloc = rt.alloc();
@@ -53,6 +58,7 @@ fn run<R: Files + AllocGlobal>(
         || making::show(alloc, words, &mut shelf.bytes, out)?
         || lists::change(alloc, words, list)?
         || boxes::show(alloc, words, list, out)?
+        || pages::show(alloc, words, pages, list, out)?
         || text::show(alloc, words, &shelf.font, out)?
     {
         return Ok(());

@@ -1,8 +1,7 @@
-use Rattle.std.proofs.Common.{◌≡◌, ◌∙◌, ap, sym, Bool, true, false, ℤ, pos, ◌-ℤ◌, Option, Some, if◌then◌else◌, to_z, of_z, w32, w64, FitsSigned, arith, rules}
+use Rattle.std.proofs.Common.{◌≡◌, ◌∙◌, ap, sym, Bool, true, false, ℤ, pos, ◌-ℤ◌, Some, if◌then◌else◌, to_z, of_z, w32, w64, FitsSigned, arith, rules}
 use Rattle.std.specs.Int.{is_negative}
 use Rattle.std.proofs.lemmas.Int.{ints, to_z-of_z}
 use Rattle.lb_base.specs.Badness.{badness_of}
-use Rattle.lb_page.specs.Sums.{amount_in}
 use Rattle.lb_page.proofs.Fits.{badness_to-shrinking, badness_to-stretching}
 use Rattle.lb_page.proofs.costs.badness_to.Goals as goal
 

@@ -1,4 +1,4 @@
-use Rattle.std.proofs.Common.{◌≡◌, ◌∙◌, ap, sym, subst, refl, drop}
+use Rattle.std.proofs.Common.{◌∙◌, sym, subst, refl, drop}
 use Rattle.lb_page.specs.Searches.{IsJudgedAs}
 use Rattle.lb_page.proofs.Ending.{going-none, IsEnd-ended, large-end, page_end-none, right-at}
 use Rattle.lb_page.proofs.end.end_by.Goals as goal

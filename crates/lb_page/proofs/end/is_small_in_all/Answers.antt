@@ -1,7 +1,4 @@
-use Rattle.std.proofs.Common.{◌≡◌, ◌∙◌, ◌≤◌, ap, sym, subst, refl, drop, take, length, length-drop, arith}
-use Rattle.std.proofs.lemmas.List.{take_all}
-use Rattle.std.proofs.lemmas.Option.{slice_get_within}
-use Rattle.lb_model_paper.specs.Pages.{are_small_on_page}
+use Rattle.std.proofs.Common.{◌∙◌, ◌≤◌, subst, drop, take, length, length-drop, arith}
 use Rattle.lb_page.specs.Searches.{IsJudgedAs}
 use Rattle.lb_page.proofs.Ending.{right-at, small-in_all, small-last}
 use Rattle.lb_page.proofs.Waiting.{slice_get-drop}

@@ -1,4 +1,4 @@
-use Rattle.std.proofs.Common.{◌∙◌, ap, sym, subst, take, arith}
+use Rattle.std.proofs.Common.{◌∙◌, sym, subst, take, arith}
 use Rattle.lb_page.specs.Fillings.{IsFilling}
 use Rattle.lb_page.proofs.Given.{split-at, top-of}
 use Rattle.lb_page.proofs.giving.fill.Goals as goal

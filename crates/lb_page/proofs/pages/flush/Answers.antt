@@ -1,4 +1,4 @@
-use Rattle.std.proofs.Common.{◌≡◌, ◌∙◌}
+use Rattle.std.proofs.Common.{◌∙◌}
 use Rattle.lb_page.proofs.Planning.{all-fault, all-parts, closed-is}
 use Rattle.lb_page.proofs.pages.flush.Goals as goal
 

@@ -1,5 +1,5 @@
-use Rattle.std.proofs.Common.{◌≡◌, ◌∙◌, ap, sym, subst, take, drop, None, Some, Ok, Err}
-use Rattle.lb_model_paper.specs.Pages.{nodes_left, page_of}
+use Rattle.std.proofs.Common.{◌∙◌, ap, sym, subst, take, drop, None, Some, Ok, Err}
+use Rattle.lb_model_paper.specs.Pages.{page_of}
 use Rattle.lb_page.specs.Ends.{IsEnd, IsEndAt}
 use Rattle.lb_page.proofs.Given.{answers-err, left-none, left-some, part-none, part-some}
 use Rattle.lb_page.proofs.pages.next_page.Goals as goal

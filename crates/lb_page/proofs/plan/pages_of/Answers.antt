@@ -1,4 +1,4 @@
-use Rattle.std.proofs.Common.{◌≡◌, ◌∙◌, ◌+◌, ◌-◌, ◌++◌, ◌∷◌, [], ap, sym, subst, drop, length, length-append, length-drop, zero, None, Some, Ok, Err, arith}
+use Rattle.std.proofs.Common.{◌∙◌, ◌-◌, ◌∷◌, [], ap, sym, subst, drop, length, length-append, length-drop, Ok, Err, arith}
 use Rattle.std.proofs.lemmas.List.{drop_all}
 use Rattle.lb_model_paper.specs.Pages.{page_end}
 use Rattle.lb_page.specs.declared.plan.Planned.{Planned}

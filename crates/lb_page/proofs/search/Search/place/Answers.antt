@@ -1,4 +1,4 @@
-use Rattle.std.proofs.Common.{◌≡◌, ◌∙◌, sym, ap, refl, ℤ, w32, w64, FitsSigned, rules}
+use Rattle.std.proofs.Common.{◌∙◌, ap, refl, ℤ, w32, w64, FitsSigned, rules}
 use Rattle.std.proofs.lemmas.Int.{to_z-of_z}
 use Rattle.lb_page.specs.Sums.{cost_in}
 use Rattle.lb_page.proofs.Stepping.{cost_at-none, IsCut-here, penalty-next}

@@ -1,4 +1,4 @@
-use Rattle.std.proofs.Common.{◌∙◌, sym, refl, add-one, take}
+use Rattle.std.proofs.Common.{refl, add-one, take}
 use Rattle.std.proofs.lemmas.Bool.{OnTrue_at}
 use Rattle.lb_page.proofs.Stepping.{IsJudged-by, IsReady-by}
 use Rattle.lb_page.proofs.search.Search.step.Goals as goal

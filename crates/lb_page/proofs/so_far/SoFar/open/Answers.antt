@@ -1,4 +1,4 @@
-use Rattle.std.proofs.Common.{◌≡◌, ◌∙◌, ap, sym, refl, ℤ, Some, to_z, of_z, w32, w64, FitsSigned, arith, rules}
+use Rattle.std.proofs.Common.{◌≡◌, ◌∙◌, ap, sym, refl, Some, to_z, of_z, w32, w64, FitsSigned, arith, rules}
 use Rattle.std.proofs.lemmas.Bool.{OnTrue_at}
 use Rattle.std.proofs.lemmas.Int.{ints, to_z-of_z}
 use Rattle.lb_model_paper.specs.Pages.{hangs, top_width, with_top_glue}

@@ -1,7 +1,7 @@
-use Rattle.std.proofs.Common.{◌≡◌, ◌-ℤ◌, ◌∙◌, ap, ℤ, to_z, of_z, w64, arith}
+use Rattle.std.proofs.Common.{◌∙◌, ap, ℤ, arith}
 use Rattle.std.proofs.lemmas.Int.{ints}
-use Rattle.lb_model_paper.specs.Pages.{badness_to, hangs}
-use Rattle.lb_page.specs.Sums.{amount_in, goal_in}
+use Rattle.lb_model_paper.specs.Pages.{badness_to}
+use Rattle.lb_page.specs.Sums.{amount_in}
 use Rattle.lb_page.proofs.sums.Sums.badness.Goals as goal
 
 pub returns-clause-badness : goal.returns-clause-badness

@@ -1,5 +1,5 @@
-use Rattle.std.proofs.Common.{refl, rules, arith, w32, FitsSigned}
-use Rattle.std.proofs.lemmas.Int.{ints, to_z-of_z}
+use Rattle.std.proofs.Common.{refl, arith, w32, FitsSigned}
+use Rattle.std.proofs.lemmas.Int.{ints}
 use Rattle.lb_page.proofs.Totalling.{amount_in-held, AreSums-top}
 use Rattle.lb_page.proofs.sums.Sums.put_top.Goals as goal
 
