@@ -9,6 +9,8 @@ pub mod FoundFonts
 pub mod Lines
 pub mod Marks
 pub mod Nodes
+pub mod PageBoxes
+pub mod Pages
 pub mod Rows
 pub mod TestFont
 pub mod Texts

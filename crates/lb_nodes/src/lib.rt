@@ -22,5 +22,6 @@ pub use lb_base::{
     Axis, Boxed, Discretionary, HeadMark, KernOrigin, Ligature, Node, NodeList, Note, RuleSize,
     Target,
 };
+pub use nesting::nests_within;
 pub use packing::{hpack, vpack};
 pub use showing::shown;

@@ -86,7 +86,7 @@ fn font(alloc: Global) -> Result<FontId, Stop> {
     })
 }
 
-fn order(word: &str) -> Result<Order, Stop> {
+pub fn order(word: &str) -> Result<Order, Stop> {
     match word {
         "0" => Ok(Order::Finite),
         "1" => Ok(Order::Fil),

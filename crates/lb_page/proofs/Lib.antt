@@ -1,0 +1,13 @@
+mod Adding
+mod BestPlaces
+mod Ending
+mod Filled
+mod Fits
+mod Given
+mod Opening
+mod OrderAmounts
+mod Planning
+mod Standing
+mod Stepping
+mod Totalling
+mod Waiting
