@@ -1,32 +1,38 @@
 #!/bin/sh
-# Makes the fonts, the commands and the answers of lb_tests_paper and lb_tests_text anew, and compares them with those that are
-# stored. With --store it stores them.
+# Makes the fonts, the commands and the answers of the test programs anew, and compares them with those that are stored. With --store
+# it stores them.
 here=$(dirname "$(readlink -f "$0")")
 folder=$(mktemp -d) || exit 1
 trap 'rm -rf "$folder"' EXIT
+export PYTHONDONTWRITEBYTECODE=1
+paper=$folder/lb_tests_paper
+pages=$folder/lb_tests_pages
+text=$folder/lb_tests_text
+mkdir -p "$paper/data" "$pages" "$text/data"
 
-# Makes what a crate has, by three scripts: of its fonts, its commands and its answers.
-make_anew() {
-    crate=$1
-    mkdir -p "$folder/$crate/data"
-    python3 -B "$here/$2" "$folder/$crate/data" || exit 1
-    python3 -B "$here/$3" "$folder/$crate/data" >"$folder/$crate/stdin" || exit 1
-    python3 -B "$here/$4" "$folder/$crate/data" <"$folder/$crate/stdin" >"$folder/$crate/stdout" || exit 1
+# The commands of a crate are given on standard input; its answers come from a script.
+answer() {
+    cat >"$1/stdin"
+    python3 "$here/$2" "$1/data" <"$1/stdin" >"$1/stdout" || exit 1
 }
 
-mkdir -p "$folder/lb_tests_paper/data"
-cp "$here/../examples/plain/cmr10.tfm" "$folder/lb_tests_paper/data/"
-make_anew lb_tests_paper paper_fonts.py paper_cases.py paper.py
-make_anew lb_tests_text text_fonts.py text_cases.py text.py
-for crate in lb_tests_paper lb_tests_text; do
+cp "$here/../examples/plain/cmr10.tfm" "$paper/data/"
+python3 "$here/paper_fonts.py" "$paper/data" || exit 1
+python3 "$here/text_fonts.py" "$text/data" || exit 1
+{ python3 "$here/paper_cases.py" "$paper/data" && echo clear && python3 "$here/marks_cases.py"; } | answer "$paper" paper.py
+{ python3 "$here/page_cases.py" && echo clear && python3 "$here/paragraph_cases.py"; } | answer "$pages" pages.py
+python3 "$here/text_cases.py" "$text/data" | answer "$text" text.py
+for crate in lb_tests_paper lb_tests_pages lb_tests_text; do
     stored=$here/../crates/$crate
     if [ "$1" = --store ]; then
-        mkdir -p "$stored/data"
-        cp "$folder/$crate"/data/* "$stored/data/"
+        if [ -d "$folder/$crate/data" ]; then
+            mkdir -p "$stored/data"
+            cp "$folder/$crate"/data/* "$stored/data/"
+        fi
         cp "$folder/$crate/stdin" "$folder/$crate/stdout" "$stored/"
     fi
-    for part in data stdin stdout; do
-        diff -r "$folder/$crate/$part" "$stored/$part" || exit 1
+    for part in "$folder/$crate"/*; do
+        diff -r "$part" "$stored/$(basename "$part")" || exit 1
     done
 done
 echo "the fonts, the commands and the answers are those that are stored"

@@ -655,8 +655,9 @@ class Desk:
 
 
 def main():
+    from paper_marks import Marks
     sys.setrecursionlimit(10000)
-    desk = Desk(sys.argv[1])
+    desk = type('Whole', (Marks, Desk), {})(sys.argv[1])
     for line in sys.stdin:
         for answer in desk.run(*line.split()):
             print(answer)

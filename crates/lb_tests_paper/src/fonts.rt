@@ -3,8 +3,8 @@
 //! bits of a byte turned, and `spoil BYTE MASK` turns them for good. `metrics CODE` and `pairs` show
 //! the font.
 use crate::digest::{EDGE, characters_of, metrics_of, pairs_of, side};
-use crate::number::{byte, count, length};
-use crate::stop::Stop;
+use lb_tests_lists::number::{byte, count, length};
+use lb_tests_lists::stop::Stop;
 use lb_tfm::{Font, LigStep, TfmStop, read};
 use std::alloc::Global;
 use std::fmt::Write;

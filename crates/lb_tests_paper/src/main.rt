@@ -4,24 +4,21 @@
 #![tactic(auto)]
 
 mod arithmetic;
-mod boxes;
 mod digest;
-mod fault;
 mod fonts;
-mod lists;
 mod making;
 mod marks;
-mod number;
-mod stop;
 mod text;
 
 use fonts::Shelf;
 use lb_base::NodeList;
 use lb_dvi::Writer;
+use lb_tests_lists::stop::Stop;
+use lb_tests_lists::{boxes, lists};
 use sqlite_items::Items;
 use std::io::{BufRead, BufReader};
 use std::rt::Files;
-use stop::Stop;
+
 
 fn main(rt: HostRuntime) -> Result<(), Stop> {
     let alloc = rt.alloc();

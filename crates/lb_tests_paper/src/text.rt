@@ -1,9 +1,9 @@
 //! Commands on the current font: `word STEPS CODE..` sets a word, with at most so many ligature and
 //! kerning steps, `words N CODE..` sets it N times, with a space behind each, and `space FACTOR` sets
 //! a space.
-use crate::fault::show_fault;
-use crate::number::{byte, count, length, steps};
-use crate::stop::Stop;
+use lb_tests_lists::fault::show_fault;
+use lb_tests_lists::number::{byte, count, length, steps};
+use lb_tests_lists::stop::Stop;
 use lb_base::{KernOrigin, Node, NodeList, Order};
 use lb_text::{Word, add_char, add_space, finish_word};
 use lb_tfm::Font;

@@ -3,10 +3,10 @@
 //! the best breaks of the current list, `lines` the vertical list of its lines, with these breaks or with
 //! given ends, and `append PREV GLUE GLUE LIMIT` puts its last box behind the rest with the glue between
 //! lines. `show` shows the list.
-use crate::fault::show_fault;
+use lb_tests_lists::fault::show_fault;
 use crate::nodes::show_list;
-use crate::number::{count, length};
-use crate::stop::Stop;
+use lb_tests_lists::number::{count, length};
+use lb_tests_lists::stop::Stop;
 use lb_base::{Glue, Listed, Node, NodeList, Order};
 use lb_break::break_paragraph;
 use lb_lines::{are_ends, append_line, lines};

@@ -1,9 +1,9 @@
-//! Commands for pages: `rules ..`, `page N` and `give N` for the last N nodes of the current list,
+//! Commands for pages: `pagerules ..`, `page N` and `give N` for the last N nodes of the current list,
 //! `ask`, `flush`, `emptypage`, and `ship ..` for the box of the first page that waits.
-use crate::fault::show_fault;
-use crate::lists::{order, taken};
-use crate::number::{count, length};
-use crate::stop::Stop;
+use lb_tests_lists::fault::show_fault;
+use lb_tests_lists::lists::{order, taken};
+use lb_tests_lists::number::{count, length};
+use lb_tests_lists::stop::Stop;
 use crate::trees::{show_box, show_nodes};
 use lb_base::{Boxed, Glue, Node, NodeList, Order};
 use lb_output::{HeadFoot, PageLengths, PageLook, page_box};
@@ -49,7 +49,7 @@ pub fn show(
     out: &mut String,
 ) -> Result<bool, Stop> {
     match words {
-        ["rules", rules @ ..] => pages.rules = rules_of(rules)?,
+        ["pagerules", rules @ ..] => pages.rules = rules_of(rules)?,
         ["page", nodes] => {
             let nodes = taken(alloc, list, count(nodes)?)?;
             contribute_all(alloc, nodes, pages, out)?;

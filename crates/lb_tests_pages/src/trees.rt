@@ -1,5 +1,5 @@
 //! Nodes in a nested form that shows each.
-use crate::stop::Stop;
+use lb_tests_lists::stop::Stop;
 use lb_base::{
     Axis, Boxed, Discretionary, Glue, HeadMark, KernOrigin, Node, NodeList, Order, RuleSize,
 };

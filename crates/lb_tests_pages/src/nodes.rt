@@ -1,5 +1,5 @@
 //! Nodes in one line of text.
-use crate::stop::Stop;
+use lb_tests_lists::stop::Stop;
 use lb_base::{
     Axis, Boxed, Discretionary, Glue, HeadMark, KernOrigin, Metrics, Node, Order, RuleSize,
 };

@@ -79,7 +79,7 @@ fn kern(width: &str, origin: KernOrigin) -> Result<Node, Stop> {
 
 fn font(alloc: Global) -> Result<FontId, Stop> {
     Ok(FontId {
-        name: Name::from_slice(alloc, b"font")?,
+        name: Name::from_slice(alloc, b"cmr10")?,
         size: 655_360,
         check: 0,
         design: 655_360,
