@@ -63,6 +63,5 @@ tell 'boxes, 32,000'
 for words in 80 1000 10000; do
     prose $words >"$work/list"
     tell "prose, $words words"
+    instructions "prose, $words words"
 done
-prose 80 >"$work/list"
-instructions 'prose, 80 words'

@@ -1,6 +1,5 @@
 -- What a pass finds.
-use Rattle.std.proofs.Common.{◌≡◌, ◌↔◌, IsTrue, true≢false, ◌≤◌, nat_lt, if◌then◌else◌, Result, Ok, Err, ℕ, List, Option, None, Some, option_map, Bool, true, false, cond, reverse, refl, sym, ap, ◌∙◌, subst, ℤ, pos, int_lt, int_le, to_z, of_z, w32, FitsSigned, arith}
-use Rattle.std.specs.Option.{option_or}
+use Rattle.std.proofs.Common.{◌≡◌, ◌↔◌, IsTrue, true≢false, ◌≤◌, nat_lt, if◌then◌else◌, Result, Ok, Err, ℕ, List, Option, None, Some, option_map, Bool, true, false, cond, reverse, sym, ap, ◌∙◌, subst, ℤ, pos, int_lt, int_le, arith}
 use Rattle.std.proofs.lemmas.Bool.Decides.{nat_tests}
 use Rattle.std.proofs.lemmas.Int.{ints}
 use Rattle.lb_base.specs.declared.fault.Kind.{Kind}

@@ -1,5 +1,5 @@
 -- The best list of breaks as a function.
-use Rattle.std.proofs.Common.{◌≡◌, ℕ, ◌≤ℤ◌, ◌<◌, ◌≤◌, ◌⊎◌, ◌||◌, ◌&&◌, ◌++◌, zero, suc, List, [], ◌∷◌, map, filter, Bool, true, false, cond, nat_lt, nat_eq, Option, Some, None, is_some, refl, sym, ◌∙◌, ap, subst, inl, inr, arith, true≢false, ℤ, pos, ◌<ℤ◌, int_lt, int_le}
+use Rattle.std.proofs.Common.{◌≡◌, ℕ, ◌<◌, ◌≤◌, ◌⊎◌, ◌||◌, ◌&&◌, ◌++◌, zero, suc, List, [], ◌∷◌, map, filter, Bool, true, false, nat_lt, nat_eq, Option, Some, None, is_some, refl, sym, ◌∙◌, ap, subst, inl, inr, arith, true≢false, ℤ, ◌<ℤ◌, int_lt, int_le}
 use Rattle.std.proofs.lemmas.Int.{ints}
 use Rattle.std.proofs.lemmas.Bool.Decides.{nat_tests}
 use Rattle.lb_model_paper.specs.declared.paragraph.Judged.{Judged}

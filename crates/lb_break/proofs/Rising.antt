@@ -1,11 +1,11 @@
 -- The chosen breaks are items of the list, and rise.
-use Rattle.std.proofs.Common.{◌≡◌, ◌+◌, ◌-◌, ◌<◌, ◌≤◌, ◌++◌, ◌∷◌, [], ℕ, List, Option, None, Some, IfOk, IfSome, option_map, Result, Ok, Err, Bool, true, false, if◌then◌else◌, cond, nat_lt, length, reverse, refl, sym, ap, ◌∙◌, subst, ℤ, pos, int_le, arith}
+use Rattle.std.proofs.Common.{◌≡◌, ◌+◌, ◌-◌, ◌<◌, ◌≤◌, ◌++◌, ◌∷◌, [], ℕ, List, Option, None, Some, IfOk, IfSome, option_map, Ok, Err, Bool, true, false, if◌then◌else◌, nat_lt, length, reverse, refl, sym, ap, ◌∙◌, subst, ℤ, pos, int_le, arith}
 use Rattle.std.specs.Option.{option_or}
 use Rattle.std.proofs.lemmas.List.{append_assoc, append-nil, reverse-append}
 use Rattle.lb_base.specs.declared.fault.Kind.{Kind}
 use Rattle.lb_base.specs.declared.fault.Kind.TheVariants.{ParagraphLimit}
 use Rattle.lb_base.specs.declared.node.Node.{Node}
-use Rattle.lb_model_paper.specs.BestBreaks.{Admitted, IsBest, IsBestOf, Paragraph, best_of, breaks_or_none, ends_of, first_found, found_by, found_in, is_bad_in, judge_of, last_of, line_of, passes_of}
+use Rattle.lb_model_paper.specs.BestBreaks.{Admitted, IsBestOf, Paragraph, best_of, breaks_or_none, ends_of, first_found, found_by, found_in, is_bad_in, judge_of, last_of, line_of, passes_of}
 use Rattle.lb_model_paper.specs.Breaks.{Pass, breaks_of, first_pass, items_in, paragraph_of, second_pass}
 use Rattle.lb_model_paper.specs.Lines.{AreEnds}
 use Rattle.lb_model_paper.specs.declared.paragraph.BreakEnd.{BreakEnd}

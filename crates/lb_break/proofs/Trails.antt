@@ -1,10 +1,10 @@
 -- The ends of the lines to each point.
-use Rattle.std.proofs.Common.{◌≡◌, ℕ, ◌+◌, ◌-◌, ◌<◌, Bool, true, false, cond, nat_lt, List, [], ◌∷◌, length, Option, Some, None, refl, sym, ◌∙◌, ap, subst, arith}
+use Rattle.std.proofs.Common.{◌≡◌, ℕ, ◌+◌, ◌-◌, ◌<◌, Bool, true, false, cond, nat_lt, List, ◌∷◌, length, Option, Some, None, sym, ◌∙◌, ap, subst, arith}
 use Rattle.std.proofs.lemmas.Bool.Decides.{nat_tests}
 use Rattle.lb_model_paper.specs.BestBreaks.{Admitted, Paragraph, bad_in, bad_of, ends_of, is_bad_in, judge_of, last_of, line_of}
 use Rattle.lb_model_paper.specs.declared.paragraph.BreakEnd.{BreakEnd}
 use Rattle.lb_model_paper.specs.declared.paragraph.Judged.{Judged}
-use Rattle.lb_break.specs.Points.{IsBestAt, IsChart, IsLinked, IsTrail, end_at, point_at}
+use Rattle.lb_break.specs.Points.{IsChart, IsLinked, IsTrail, point_at}
 use Rattle.lb_break.specs.declared.point.Breakpoint.{Breakpoint}
 
 marked : (b : Bool) (n : ℕ) → b ≡ nat_lt n (cond b 1 0 + n)

@@ -3,7 +3,7 @@ use Rattle.std.proofs.Common.{◌≡◌, ℕ, suc, ◌+◌, ◌<◌, ◌≤◌, 
 use Rattle.std.proofs.lemmas.List.{drop_all, drop_more, map-append, take-append-drop}
 use Rattle.std.proofs.lemmas.List.Sums.{sum_by-append, sum_by-cons}
 use Rattle.lb_base.specs.declared.node.Boxed.{Boxed, fold-Boxed}
-use Rattle.lb_base.specs.declared.node.Discretionary.{Discretionary, out-Discretionary, fold-Discretionary, fold_out-Discretionary}
+use Rattle.lb_base.specs.declared.node.Discretionary.{Discretionary, out-Discretionary, fold_out-Discretionary}
 use Rattle.lb_base.specs.declared.node.HeadMark.{HeadMark, fold-HeadMark}
 use Rattle.lb_base.specs.declared.node.HeadMark.TheOpen.{Char, Lig, Kern, Glue, Penalty, Disc, Rule, Boxed as InnerBox, Note, Mark, Ins, Adjust}
 use Rattle.lb_base.specs.declared.node.Node as made

@@ -8,11 +8,9 @@ use Rattle.lb_base.specs.declared.node.Discretionary.{Discretionary}
 use Rattle.lb_base.specs.declared.node.HeadMark.{HeadMark}
 use Rattle.lb_base.specs.declared.node.HeadMark.TheOpen.{Char, Lig, Kern, Glue, Penalty, Disc, Rule, Boxed as InnerBox, Note, Mark, Ins, Adjust}
 use Rattle.lb_base.specs.declared.node.Node.{Node, Node-F, out-Node}
-use Rattle.lb_model_paper.specs.BestBreaks.{Paragraph}
-use Rattle.lb_model_paper.specs.Breaks.{Pass, break_penalty, break_penalty_in, disc_penalty, free_where, glue_node, inner_items, is_disc_at, is_discardable, is_explicit, is_forced, is_forcing, is_overfull_line, is_solid_before, is_some_glue, is_stop, is_there_penalty, items_between, judged_line, line_at, line_from, line_items, paragraph_of, penalty_at, penalty_at_item, post_at, pre_at, sums_of, trimmed, unbarred}
+use Rattle.lb_model_paper.specs.Breaks.{Pass, break_penalty, break_penalty_in, disc_penalty, free_where, glue_node, inner_items, is_disc_at, is_discardable, is_explicit, is_forcing, is_overfull_line, is_solid_before, is_some_glue, is_stop, is_there_penalty, items_between, judged_line, line_at, line_from, line_items, paragraph_of, penalty_at, penalty_at_item, post_at, pre_at, sums_of, trimmed, unbarred}
 use Rattle.lb_model_paper.specs.Nodes.{shown}
 use Rattle.lb_model_paper.specs.declared.paragraph.BreakRules.{BreakRules}
-use Rattle.lb_model_paper.specs.declared.paragraph.Judged.{Judged}
 use Rattle.lb_model_paper.specs.declared.paragraph.LineSums.{LineSums}
 use Rattle.lb_model_paper.specs.declared.paragraph.Shape.{Shape}
 use Rattle.lb_measure.specs.Amounts.{added, less, nothing}

@@ -1,5 +1,5 @@
 -- Places of breaks, and discardables in a row.
-use Rattle.std.proofs.Common.{◌≡◌, ℕ, zero, suc, ◌+◌, ◌-◌, ◌<◌, ◌≤◌, ◌⊎◌, inl, inr, List, [], ◌∷◌, ◌++◌, length, take, drop, set, get_or, Option, None, Some, slice_get, Bool, true, false, if◌then◌else◌, ℤ, pos, ◌<ℤ◌, int_lt, refl, sym, ap, ◌∙◌, subst, add-one, arith}
+use Rattle.std.proofs.Common.{◌≡◌, ℕ, suc, ◌+◌, ◌-◌, ◌<◌, ◌≤◌, ◌⊎◌, inl, inr, List, [], ◌∷◌, ◌++◌, length, take, drop, set, get_or, Option, None, Some, slice_get, Bool, true, false, if◌then◌else◌, ℤ, pos, refl, sym, ap, ◌∙◌, subst, add-one, arith}
 use Rattle.std.proofs.lemmas.Int.{ints}
 use Rattle.std.proofs.lemmas.List.{drop_more, drop_all, length-drop, get_or_append_left, get_or-append-add, get_or-set_same, get_or-set_other}
 use Rattle.std.proofs.lemmas.Option.{slice_get-get_or}
@@ -10,14 +10,14 @@ use Rattle.lb_base.specs.declared.node.HeadMark.TheOpen.{Char, Lig, Kern, Glue, 
 use Rattle.lb_base.specs.declared.node.Node as made
 use Rattle.lb_base.specs.declared.node.Node.{Node, Node-F, out-Node, roll-Node, roll-out-Node}
 use Rattle.lb_base.specs.declared.node.Node.TheVariants.{outs-Disc, rolls-Disc}
-use Rattle.lb_model_paper.specs.Breaks.{break_penalty, break_penalty_in, free_where, is_disc_at, is_discardable, is_explicit, is_there, parts_at, parts_at_item, parts_in, parts_of, penalty_at, penalty_at_item, post_at, post_in, pre_at, pre_in, sums_of, unbarred}
+use Rattle.lb_model_paper.specs.Breaks.{is_discardable, is_there, parts_at, parts_at_item, parts_in, parts_of, penalty_at, post_in, pre_in, sums_of}
 use Rattle.lb_model_paper.specs.Nodes.{shown}
 use Rattle.lb_model_paper.specs.declared.paragraph.BreakRules.{BreakRules}
 use Rattle.lb_model_paper.specs.declared.paragraph.LineSums.{LineSums}
 use Rattle.lb_measure.specs.Amounts.{AreNear, IsNear, nothing}
 use Rattle.lb_measure.specs.Measures.{AreLeads, ArePlaces, IsPlace, blank, lead_at, leading, place_at}
 use Rattle.lb_measure.specs.declared.places.Place.{Place}
-use Rattle.lb_measure.proofs.Sums.{AreNear-more, sums_of-nil}
+use Rattle.lb_measure.proofs.Sums.{sums_of-nil}
 use Rattle.lb_nodes.proofs.ShownLists.{shown-nil}
 
 -- ---- the discretionary at a break

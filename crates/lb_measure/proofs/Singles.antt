@@ -1,5 +1,5 @@
 -- The sums of a list of one node.
-use Rattle.std.proofs.Common.{◌≡◌, List, [], ◌∷◌, ℤ, pos, neg_ℤ, ◌+ℤ◌, ◌≤ℤ◌, if◌then◌else◌, w64, to_z, of_z, refl, sym, ap, ◌∙◌, subst, arith}
+use Rattle.std.proofs.Common.{◌≡◌, [], ◌∷◌, ℤ, pos, ◌+ℤ◌, if◌then◌else◌, w64, to_z, of_z, refl, sym, ap, ◌∙◌, subst, arith}
 use Rattle.std.proofs.lemmas.Int.{ints}
 use Rattle.lb_base.specs.declared.glue.Glue.{Glue as GlueSize}
 use Rattle.lb_base.specs.declared.glue.Order.{Order}

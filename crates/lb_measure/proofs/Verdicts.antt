@@ -1,10 +1,8 @@
 -- How lines are judged.
-use Rattle.std.proofs.Common.{◌≡◌, ℕ, ◌+◌, ◌*◌, Bool, true, false, ◌&&◌, if◌then◌else◌, Option, None, Some, option_map, ℤ, pos, neg_ℤ, ◌+ℤ◌, ◌≤ℤ◌, int_le, w32, w64, to_z, of_z, FitsSigned, refl, sym, ap, ◌∙◌, subst, arith}
+use Rattle.std.proofs.Common.{◌≡◌, ℕ, Bool, if◌then◌else◌, Option, ℤ, pos, neg_ℤ, ◌+ℤ◌, ◌≤ℤ◌, int_le, w32, w64, to_z, of_z, FitsSigned, refl, sym, ap, ◌∙◌, arith}
 use Rattle.std.proofs.lemmas.Int.{ints, to_z-of_z}
-use Rattle.lb_model_paper.specs.Breaks.{Pass, badness_by, excess_in, fitness_by, is_overfull_by, judged_as, judged_by, judged_line, line_demerits, verdict_by}
-use Rattle.lb_model_paper.specs.declared.paragraph.BreakRules.{BreakRules}
+use Rattle.lb_model_paper.specs.Breaks.{Pass, badness_by, excess_in, fitness_by, is_overfull_by, judged_by, judged_line, line_demerits, verdict_by}
 use Rattle.lb_model_paper.specs.declared.paragraph.Fitness.{Fitness}
-use Rattle.lb_model_paper.specs.declared.paragraph.Judged.{Judged}
 use Rattle.lb_model_paper.specs.declared.paragraph.LineSums.{LineSums}
 use Rattle.lb_model_paper.specs.declared.paragraph.Shape.{Shape}
 use Rattle.lb_measure.specs.Amounts.{IsNear}

@@ -1,12 +1,11 @@
 -- What is measured of a paragraph.
-use Rattle.std.specs.Prelude.{◌≡◌, ℕ, zero, suc, ◌+◌, ◌-◌, min, ◌<◌, ◌≤◌, List, [], ◌∷◌, length, take, drop, if◌then◌else◌, ℤ, pos, neg_ℤ, ◌≤ℤ◌, false, None, slice_index_or}
+use Rattle.std.specs.Prelude.{◌≡◌, ℕ, zero, suc, ◌+◌, ◌-◌, min, ◌<◌, ◌≤◌, List, [], ◌∷◌, length, take, drop, if◌then◌else◌, pos, neg_ℤ, ◌≤ℤ◌, false, None, slice_index_or}
 use Rattle.lb_base.specs.declared.node.Node.{Node}
 use Rattle.lb_model_paper.specs.BestBreaks.{Paragraph}
-use Rattle.lb_model_paper.specs.Breaks.{Pass, glue_node, is_discardable, is_disc_at, items_in, paragraph_of, penalty_at, post_at, pre_at, sums_of}
+use Rattle.lb_model_paper.specs.Breaks.{Pass, glue_node, is_discardable, is_disc_at, paragraph_of, penalty_at, post_at, pre_at, sums_of}
 use Rattle.lb_model_paper.specs.Nodes.{shown}
 use Rattle.lb_model_paper.specs.declared.paragraph.BreakRules.{BreakRules}
 use Rattle.lb_model_paper.specs.declared.paragraph.Judged.{Judged}
-use Rattle.lb_model_paper.specs.declared.paragraph.LineSums.{LineSums}
 use Rattle.lb_measure.specs.Amounts.{AreNear, nothing}
 use Rattle.lb_measure.specs.declared.measured.Measured.{Measured}
 use Rattle.lb_measure.specs.declared.places.Place.{Place}

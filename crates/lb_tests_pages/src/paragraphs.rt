@@ -9,7 +9,7 @@ use lb_tests_lists::number::{count, length};
 use lb_tests_lists::stop::Stop;
 use lb_base::{Glue, Listed, Node, NodeList, Order};
 use lb_break::break_paragraph;
-use lb_lines::{are_ends, append_line, lines};
+use lb_lines::{append_line, are_ends, lines};
 use lb_model_paper::paragraph::{BreakEnd, BreakList, BreakRules, LineRules, Passes, Shape};
 use sqlite_items::Items;
 use std::alloc::Global;

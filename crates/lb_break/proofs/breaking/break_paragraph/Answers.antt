@@ -1,4 +1,4 @@
-use Rattle.std.proofs.Common.{◌≡◌, ◌≤◌, ◌↔◌, IsTrue, sym, subst, ap, ◌∙◌}
+use Rattle.std.proofs.Common.{◌≤◌, ◌↔◌, IsTrue, sym, subst, ◌∙◌}
 use Rattle.lb_model_paper.specs.Breaks.{items_in}
 use Rattle.lb_measure.specs.Measures.{pass_of}
 use Rattle.lb_break.proofs.Found.{breaks-limit, breaks-ok}

@@ -1,4 +1,4 @@
-use Rattle.std.proofs.Common.{◌≤◌, sym, ◌∙◌, ap, arith}
+use Rattle.std.proofs.Common.{◌∙◌, ap, arith}
 use Rattle.lb_measure.specs.Measures.{paragraph_in}
 use Rattle.lb_break.specs.Points.{extended_by, point_at}
 use Rattle.lb_break.proofs.Stops.{extended-open}

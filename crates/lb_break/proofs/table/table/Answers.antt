@@ -1,4 +1,4 @@
-use Rattle.std.proofs.Common.{◌≡◌, ◌+◌, ◌≤◌, ◌++◌, ◌∷◌, [], List, Bool, true, sym, subst, arith, ap, ◌∙◌}
+use Rattle.std.proofs.Common.{◌≡◌, ◌+◌, ◌++◌, ◌∷◌, [], List, Bool, true, sym, subst, arith, ap, ◌∙◌}
 use Rattle.lb_measure.specs.Measures.{paragraph_in}
 use Rattle.lb_break.specs.Points.{AreSmall, HasChart, IsOpen, start}
 use Rattle.lb_break.specs.declared.point.Breakpoint.{Breakpoint}

@@ -1,4 +1,3 @@
-use Rattle.std.proofs.Common.{◌≡◌}
 use Rattle.lb_measure.specs.Measures.{paragraph_in}
 use Rattle.lb_break.specs.Progress.{IsVisited}
 use Rattle.lb_break.proofs.table.table.Given as goal

@@ -1,5 +1,4 @@
-use Rattle.std.proofs.Common.{◌≡◌, ◌+◌, sym, subst}
-use Rattle.lb_model_paper.specs.declared.paragraph.LineSums.{LineSums}
+use Rattle.std.proofs.Common.{◌+◌, sym, subst}
 use Rattle.lb_measure.specs.Amounts.{added, AreNear}
 use Rattle.lb_measure.proofs.Sums.{AreNear-added, held_sum, sums-same}
 use Rattle.lb_measure.proofs.amounts.added.Goals as goal

@@ -1,4 +1,4 @@
-use Rattle.std.proofs.Common.{◌≡◌, ◌&&◌, ℤ, pos, ◌+ℤ◌, if◌then◌else◌, w32, FitsSigned, ap, ◌∙◌, rules}
+use Rattle.std.proofs.Common.{◌&&◌, ℤ, pos, ◌+ℤ◌, if◌then◌else◌, w32, FitsSigned, ap, ◌∙◌, rules}
 use Rattle.lb_measure.proofs.Verdicts.{held_applied, held_bounded_sum}
 use Rattle.lb_measure.proofs.judging.hyphen_demerits.Goals as goal
 

@@ -1,6 +1,6 @@
-use Rattle.std.proofs.Common.{◌≡◌, ◌≤◌, ℕ, Bool, Option, Some, None, ℤ, pos, neg_ℤ, int_le, to_z, of_z, w32, w64, FitsSigned, refl, sym, ap, ◌∙◌, arith, rules}
+use Rattle.std.proofs.Common.{◌≡◌, Bool, Option, Some, None, ℤ, pos, neg_ℤ, int_le, to_z, of_z, w32, w64, FitsSigned, refl, sym, ap, ◌∙◌, arith, rules}
 use Rattle.std.proofs.lemmas.Int.{ints, to_z-of_z}
-use Rattle.lb_model_paper.specs.Breaks.{Pass, badness_by, fitness_by, is_overfull_by, judged_as, line_demerits, verdict_by}
+use Rattle.lb_model_paper.specs.Breaks.{badness_by, fitness_by, is_overfull_by, judged_as, line_demerits, verdict_by}
 use Rattle.lb_model_paper.specs.declared.paragraph.Judged.{Judged}
 use Rattle.lb_measure.specs.Amounts.{IsNear}
 use Rattle.lb_measure.proofs.Sums.{IsNear-more, held}

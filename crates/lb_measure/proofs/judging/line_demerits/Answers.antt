@@ -1,4 +1,4 @@
-use Rattle.std.proofs.Common.{◌≡◌, ℤ, pos, ◌+ℤ◌, w32, FitsSigned, ap, ◌∙◌, rules}
+use Rattle.std.proofs.Common.{ℤ, ◌+ℤ◌, w32, FitsSigned, ap, ◌∙◌, rules}
 use Rattle.std.proofs.lemmas.Int.{to_z-of_z}
 use Rattle.lb_model_paper.specs.Breaks.{badness_demerits, line_demerits, penalty_demerits}
 use Rattle.lb_measure.proofs.Verdicts.{held_three}

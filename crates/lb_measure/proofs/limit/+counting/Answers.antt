@@ -1,5 +1,4 @@
 use Rattle.std.proofs.Common.{◌≡◌, ◌+◌, ◌<◌, IfSome, IfNone, ℕ, Option, Some, None, refl, sym, ap, subst, arith}
-use Rattle.lb_base.specs.declared.node.Discretionary.{out-Discretionary}
 use Rattle.lb_model_paper.specs.Breaks.{items_in}
 use Rattle.lb_measure.specs.Counts.{count_of_disc}
 use Rattle.lb_measure.proofs.Counting.{count_of_disc_is, items_in-drop, items_in-end}

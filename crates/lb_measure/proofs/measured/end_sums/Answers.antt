@@ -1,4 +1,4 @@
-use Rattle.std.proofs.Common.{◌≡◌, ◌+◌, ◌≤◌, [], ◌∷◌, sym, ap, ◌∙◌, arith}
+use Rattle.std.proofs.Common.{[], ◌∷◌, sym, ap, ◌∙◌, arith}
 use Rattle.lb_model_paper.specs.Breaks.{glue_node, sums_of}
 use Rattle.lb_model_paper.specs.declared.paragraph.LineSums.{LineSums}
 use Rattle.lb_measure.specs.Amounts.{added}

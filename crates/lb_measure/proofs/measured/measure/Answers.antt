@@ -1,4 +1,4 @@
-use Rattle.std.proofs.Common.{◌≡◌, ◌+◌, ◌≤◌, length, arith}
+use Rattle.std.proofs.Common.{arith}
 use Rattle.lb_measure.proofs.Counting.{length-items}
 use Rattle.lb_measure.proofs.measured.measure.Goals as goal
 

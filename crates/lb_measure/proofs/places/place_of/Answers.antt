@@ -1,4 +1,4 @@
-use Rattle.std.proofs.Common.{◌≡◌, ◌+◌, ◌≤◌, false, List, Option, ℤ, ap, sym, ◌∙◌, arith, subst}
+use Rattle.std.proofs.Common.{◌+◌, false, ap, sym, ◌∙◌, arith, subst}
 use Rattle.lb_base.specs.declared.node.Discretionary.{Discretionary, out-Discretionary}
 use Rattle.lb_model_paper.specs.Breaks.{items_in, sums_of}
 use Rattle.lb_model_paper.specs.Nodes.{shown}

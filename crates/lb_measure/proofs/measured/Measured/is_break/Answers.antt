@@ -1,4 +1,4 @@
-use Rattle.std.proofs.Common.{◌≡◌, ℕ, Option, None, is_some, ℤ, sym, ◌∙◌, ap}
+use Rattle.std.proofs.Common.{◌≡◌, None, sym, ◌∙◌}
 use Rattle.lb_model_paper.specs.Breaks.{penalty_at}
 use Rattle.lb_measure.specs.Measures.{pass_of}
 use Rattle.lb_measure.proofs.LineSums.{line_of_paragraph, no_break, no_stop, place_here, stop_of_paragraph, there_is}

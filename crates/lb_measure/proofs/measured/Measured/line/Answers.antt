@@ -1,6 +1,6 @@
-use Rattle.std.proofs.Common.{◌≡◌, ◌+◌, ◌≤◌, ℕ, Bool, nat_eq, length, Option, Some, None, ℤ, pos, ◌<ℤ◌, to_z, of_z, w32, FitsSigned, sym, ap, ◌∙◌, subst, arith, rules}
+use Rattle.std.proofs.Common.{Bool, nat_eq, length, Option, ℤ, pos, ◌<ℤ◌, to_z, of_z, w32, FitsSigned, sym, ap, ◌∙◌, subst, arith, rules}
 use Rattle.std.proofs.lemmas.Int.{to_z-of_z}
-use Rattle.lb_model_paper.specs.Breaks.{Pass, is_disc_at, judged_line, line_items, penalty_at, sums_of}
+use Rattle.lb_model_paper.specs.Breaks.{is_disc_at, judged_line}
 use Rattle.lb_model_paper.specs.declared.paragraph.Judged.{Judged}
 use Rattle.lb_model_paper.specs.declared.paragraph.LineSums.{LineSums}
 use Rattle.lb_measure.specs.Measures.{pass_of}

@@ -1,4 +1,4 @@
-use Rattle.std.proofs.Common.{◌≡◌, ◌||◌, Bool, true, false, ℤ, pos, neg_ℤ, int_le, to_z, of_z, w32, FitsSigned, sym, ap, ◌∙◌, rules}
+use Rattle.std.proofs.Common.{◌≡◌, ◌||◌, Bool, true, false, ℤ, pos, neg_ℤ, int_le, w32, FitsSigned, sym, ap, ◌∙◌, rules}
 use Rattle.std.proofs.lemmas.Int.{to_z-of_z}
 use Rattle.lb_model_paper.specs.Breaks.{is_overfull_line, line_items, sums_of}
 use Rattle.lb_measure.specs.Measures.{pass_of}

@@ -1,9 +1,8 @@
-use Rattle.std.proofs.Common.{◌≡◌, ◌+◌, ◌-◌, ◌<◌, ◌≤◌, length, take, sym, ap, ◌∙◌, arith}
+use Rattle.std.proofs.Common.{◌-◌, take, ap, ◌∙◌, arith}
 use Rattle.lb_model_paper.specs.Breaks.{sums_of}
 use Rattle.lb_model_paper.specs.Nodes.{shown}
 use Rattle.lb_model_paper.specs.declared.paragraph.LineSums.{LineSums}
-use Rattle.lb_measure.specs.Amounts.{AreNear, added, less}
-use Rattle.lb_measure.specs.Measures.{IsPlace}
+use Rattle.lb_measure.specs.Amounts.{added}
 use Rattle.lb_measure.proofs.LineSums.{line_sums, place_here}
 use Rattle.lb_measure.proofs.Sums.{AreNear-more}
 use Rattle.lb_measure.proofs.measured.Measured.sums.Goals as goal

@@ -1,4 +1,4 @@
-use Rattle.std.proofs.Common.{◌+◌, ◌≤◌, arith}
+use Rattle.std.proofs.Common.{arith}
 use Rattle.lb_measure.proofs.Sums.{AreNear-more}
 use Rattle.lb_measure.proofs.summing.Summing.add_one.Goals as goal
 
