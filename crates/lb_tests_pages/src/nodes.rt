@@ -1,8 +1,8 @@
 //! Nodes in one line of text.
-use lb_tests_lists::stop::Stop;
 use lb_base::{
     Axis, Boxed, Discretionary, Glue, HeadMark, KernOrigin, Metrics, Node, Order, RuleSize,
 };
+use lb_tests_lists::stop::Stop;
 use std::fmt::Write;
 
 /// Writes a list of nodes.

@@ -1,13 +1,13 @@
 //! Commands for pages: `pagerules ..`, `page N` and `give N` for the last N nodes of the current list,
 //! `ask`, `flush`, `emptypage`, and `ship ..` for the box of the first page that waits.
-use lb_tests_lists::fault::show_fault;
-use lb_tests_lists::lists::{order, taken};
-use lb_tests_lists::number::{count, length};
-use lb_tests_lists::stop::Stop;
 use crate::trees::{show_box, show_nodes};
 use lb_base::{Boxed, Glue, Node, NodeList, Order};
 use lb_output::{HeadFoot, PageLengths, PageLook, page_box};
 use lb_page::{PageList, PagePart, PageRules, contribute, flush, next_page};
+use lb_tests_lists::fault::show_fault;
+use lb_tests_lists::lists::{order, taken};
+use lb_tests_lists::number::{count, length};
+use lb_tests_lists::stop::Stop;
 use std::alloc::Global;
 use std::collections::VecDeque;
 use std::fmt::Write;

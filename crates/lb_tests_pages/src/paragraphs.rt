@@ -3,14 +3,14 @@
 //! the best breaks of the current list, `lines` the vertical list of its lines, with these breaks or with
 //! given ends, and `append PREV GLUE GLUE LIMIT` puts its last box behind the rest with the glue between
 //! lines. `show` shows the list.
-use lb_tests_lists::fault::show_fault;
 use crate::nodes::show_list;
-use lb_tests_lists::number::{count, length};
-use lb_tests_lists::stop::Stop;
 use lb_base::{Glue, Listed, Node, NodeList, Order};
 use lb_break::break_paragraph;
 use lb_lines::{append_line, are_ends, lines};
 use lb_model_paper::paragraph::{BreakEnd, BreakList, BreakRules, LineRules, Passes, Shape};
+use lb_tests_lists::fault::show_fault;
+use lb_tests_lists::number::{count, length};
+use lb_tests_lists::stop::Stop;
 use sqlite_items::Items;
 use std::alloc::Global;
 use std::fmt::Write;

@@ -1,8 +1,8 @@
 //! Nodes in a nested form that shows each.
-use lb_tests_lists::stop::Stop;
 use lb_base::{
     Axis, Boxed, Discretionary, Glue, HeadMark, KernOrigin, Node, NodeList, Order, RuleSize,
 };
+use lb_tests_lists::stop::Stop;
 use std::fmt::Write;
 
 /// Shows nodes, a space before each.

@@ -1,7 +1,7 @@
 //! Commands on numbers: `badness T S`, `scaled S` and `decimals DIGITS`.
+use lb_base::{badness, print_scaled, round_decimals};
 use lb_tests_lists::number::{length, sum};
 use lb_tests_lists::stop::Stop;
-use lb_base::{badness, print_scaled, round_decimals};
 use std::alloc::Global;
 use std::fmt::Write;
 use std::str;

@@ -19,7 +19,6 @@ use sqlite_items::Items;
 use std::io::{BufRead, BufReader};
 use std::rt::Files;
 
-
 fn main(rt: HostRuntime) -> Result<(), Stop> {
     let alloc = rt.alloc();
     let mut shelf = Shelf {

@@ -1,9 +1,9 @@
 //! Commands that make a font, which then is the file of the other commands: `make` the test font, and
 //! `make COUNT WIDTHS LEFT RIGHT OP REM ..` a font of so many characters from 0 on, with at most so
 //! many distinct widths, and with steps.
+use lb_base::{Bytes, Listed};
 use lb_tests_lists::number::{byte, count, length};
 use lb_tests_lists::stop::Stop;
-use lb_base::{Bytes, Listed};
 use lb_tfm_make::{CharWidth, FixParameters, FontSpec, MakeStop, PairStep, make, test_font};
 use std::alloc::Global;
 use std::fmt::Write;

@@ -1,11 +1,11 @@
 //! Commands on the last node of the current list, which has to be a box: `marks` shows its marks,
 //! `code NUMBER` its page code, `page NUMBER` the bytes of its page behind the pages before it, and
 //! `pages NUMBER COUNT` writes it so many times. `finish` ends the file of these pages.
+use lb_base::{Boxed, Node};
+use lb_dvi::{DviStop, Mark, PageCode, Writer, is_drawable, marks, page_code};
 use lb_tests_lists::fault::show_fault;
 use lb_tests_lists::number::{count, length};
 use lb_tests_lists::stop::Stop;
-use lb_base::{Boxed, Node};
-use lb_dvi::{DviStop, Mark, PageCode, Writer, is_drawable, marks, page_code};
 use std::alloc::Global;
 use std::fmt::Write;
 

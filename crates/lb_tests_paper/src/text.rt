@@ -1,10 +1,10 @@
 //! Commands on the current font: `word STEPS CODE..` sets a word, with at most so many ligature and
 //! kerning steps, `words N CODE..` sets it N times, with a space behind each, and `space FACTOR` sets
 //! a space.
+use lb_base::{KernOrigin, Node, NodeList, Order};
 use lb_tests_lists::fault::show_fault;
 use lb_tests_lists::number::{byte, count, length, steps};
 use lb_tests_lists::stop::Stop;
-use lb_base::{KernOrigin, Node, NodeList, Order};
 use lb_text::{Word, add_char, add_space, finish_word};
 use lb_tfm::Font;
 use sqlite_items::Items;

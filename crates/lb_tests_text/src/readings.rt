@@ -54,7 +54,10 @@ fn told<C: Cells>(cells: &mut C, kind: &str, cell: Cell) -> Result<Value, Stop> 
             _ => Err(Stop::Command),
         },
         "number" => Ok(Value::Number(reads::number(cells, cell)?)),
-        "number-if-any" => Ok(reads::number_if_any(cells, cell)?.map_or(Value::Absent, Value::Number)),
+        "number-if-any" => Ok(reads::number_if_any(cells, cell)?.map_or(
+            Value::Absent,
+            Value::Number,
+        )),
         "code" => Ok(Value::Code(reads::code(cells, cell)?)),
         "style" => Ok(Value::Number(reads::style(cells)?)),
         "size" => Ok(Value::Number(reads::size(cells)?)),
@@ -75,7 +78,10 @@ fn told_if_any<C: Cells>(cells: &mut C, kind: &str, cell: Cell) -> Result<Value,
         "name" => Ok(reads::name(cells, cell)?.map_or(Value::Absent, Value::Name)),
         "boxed" => Ok(reads::boxed(cells, cell)?.map_or(Value::Absent, Value::Boxed)),
         "label" => Ok(reads::label(cells, cell)?.map_or(Value::Absent, Value::Label)),
-        "checkpoint" => Ok(reads::checkpoint(cells, cell)?.map_or(Value::Absent, Value::Checkpoint)),
+        "checkpoint" => Ok(reads::checkpoint(cells, cell)?.map_or(
+            Value::Absent,
+            Value::Checkpoint,
+        )),
         "form" => Ok(reads::form(cells, cell)?.map_or(Value::Absent, Value::Form)),
         _ => Ok(reads::page_style(cells, cell)?.map_or(Value::Absent, Value::PageStyle)),
     }
