@@ -188,5 +188,5 @@ page_boxed look goal feet (Ok boxes) =
 unfoldable pub page_box_of : PagePart → PageLook → Result Boxed Kind
 page_box_of part look =
     if are_small_heights look.lengths part.goal part.feet then
-      page_boxed look part.goal part.feet (both (packs Vertical (shown part.items) (To part.goal)) (running_box look))
+    page_boxed look part.goal part.feet (both (packs Vertical (shown part.items) (To part.goal)) (running_box look))
     else Err DimenTooLarge

@@ -169,7 +169,7 @@ shrink_in_all shrink = shrink Finite +ℤ (shrink Fil +ℤ (shrink Fill +ℤ shr
 unfoldable pub badness_to : ℤ → (Order → ℤ) → (Order → ℤ) → Option ℤ
 badness_to excess stretch shrink =
     if is_negative excess then
-      (if int_lt (shrink_in_all shrink) (neg_ℤ excess) then None else Some (pos (badness_of (neg_ℤ excess) (shrink_in_all shrink))))
+    (if int_lt (shrink_in_all shrink) (neg_ℤ excess) then None else Some (pos (badness_of (neg_ℤ excess) (shrink_in_all shrink))))
     else if stretches_without_end stretch then Some (pos 0)
     else Some (pos (badness_of excess (stretch Finite)))
 
