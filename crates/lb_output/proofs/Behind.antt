@@ -1,5 +1,5 @@
 -- Sums of lengths, one behind the other.
-use Rattle.std.proofs.Common.{◌≡◌, ◌∙◌, ◌+◌, ◌<◌, length, take, drop, get_or, ap, sym, subst, refl, Bool, true, false, ◌&&◌, List, [], ◌∷◌, ◌++◌, map, Option, None, Some, ℕ, zero, suc, ℤ, pos, ◌+ℤ◌, if◌then◌else◌, arith}
+use Rattle.std.proofs.Common.{◌≡◌, ◌∙◌, ◌+◌, ◌<◌, length, take, drop, get_or, ap, sym, refl, Bool, true, false, ◌&&◌, List, [], ◌∷◌, ◌++◌, map, Option, ℕ, zero, suc, ℤ, pos, ◌+ℤ◌, arith}
 use Rattle.std.proofs.lemmas.Int.{ints}
 use Rattle.std.proofs.lemmas.List.Sums.{fold_more}
 use Rattle.std.specs.List.{fold}
@@ -8,7 +8,7 @@ use Rattle.lb_base.specs.declared.node.Node.{Node}
 use Rattle.lb_model_paper.specs.declared.pages.PageLengths.{PageLengths}
 use Rattle.lb_model_paper.specs.Dvi.{is_small}
 use Rattle.lb_model_paper.specs.Nodes.{total}
-use Rattle.lb_model_paper.specs.Pages.{foot_size, is_some_left}
+use Rattle.lb_model_paper.specs.Pages.{foot_size}
 use Rattle.lb_model_paper.specs.PageBoxes.{are_small_behind, are_small_heights, feet_lengths, page_height}
 use Rattle.lb_output.specs.Heights.{above, feet_room, lengths_above}
 

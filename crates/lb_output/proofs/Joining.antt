@@ -1,5 +1,5 @@
 -- Items that are put behind a list one by one.
-use Rattle.std.proofs.Common.{◌≡◌, ◌∙◌, ap, sym, refl, List, [], ◌∷◌, ◌++◌, ℤ, append_assoc}
+use Rattle.std.proofs.Common.{◌≡◌, ◌∙◌, ap, List, [], ◌∷◌, ◌++◌, ℤ, append_assoc}
 use Rattle.lb_base.specs.declared.node.Boxed.{Boxed}
 use Rattle.lb_base.specs.declared.node.Node.{Node}
 use Rattle.lb_model_paper.specs.PageBoxes.{box_at, kern}

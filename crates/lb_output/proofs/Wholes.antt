@@ -17,9 +17,9 @@ use Rattle.lb_model_paper.specs.declared.pages.PagePart.{PagePart}
 use Rattle.lb_model_paper.specs.Boxes.{nesting_of_list, packs}
 use Rattle.lb_model_paper.specs.Nodes.{shown}
 use Rattle.lb_model_paper.specs.Pages.{fil_glue}
-use Rattle.lb_model_paper.specs.PageBoxes.{are_small_heights, both, head_nodes, is_odd, margin_of, mark_nodes, page_box_of, page_boxed, page_height, page_items, running_box, running_in, some_box, used_by}
+use Rattle.lb_model_paper.specs.PageBoxes.{are_small_heights, both, is_odd, margin_of, mark_nodes, page_box_of, page_boxed, page_height, page_items, running_box, running_in, some_box, used_by}
 use Rattle.lb_output.specs.Heights.{IsHeights}
-use Rattle.lb_output.specs.Layouts.{boxed_by, items_by, nested_by}
+use Rattle.lb_output.specs.Layouts.{items_by, nested_by}
 use Rattle.lb_output.specs.Running.{head_by, running_by}
 use Rattle.lb_output.specs.declared.building.Layout.{Layout}
 use Rattle.lb_output.specs.declared.heights.Heights.{Heights}

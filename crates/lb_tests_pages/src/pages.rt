@@ -56,8 +56,8 @@ pub fn show(
         }
         ["give", nodes] => {
             let mut nodes = turned(alloc, taken(alloc, list, count(nodes)?)?)?;
-            while let Some(node) = nodes.pop() {
-                contribute(&mut pages.page, node)?;
+            for _ in 0..nodes.len() {
+                contribute(&mut pages.page, nodes.pop().ok_or(Stop::Command)?)?;
             }
         }
         ["ask"] => show_next(pages, out)?,
@@ -174,8 +174,8 @@ fn mark(list: &mut NodeList, is_asked: bool) -> Result<Option<Boxed>, Stop> {
 fn turned(alloc: Global, nodes: NodeList) -> Result<NodeList, Stop> {
     let mut nodes = nodes;
     let mut turned = sqlite_items::Items::new(alloc);
-    while let Some(node) = nodes.pop() {
-        turned.push(node)?;
+    for _ in 0..nodes.len() {
+        turned.push(nodes.pop().ok_or(Stop::Command)?)?;
     }
     Ok(turned)
 }
@@ -189,17 +189,16 @@ fn contribute_all(
 ) -> Result<(), Stop> {
     let mut nodes = turned(alloc, nodes)?;
     let mut given = 0u64;
-    while let Some(node) = nodes.pop() {
-        contribute(&mut pages.page, node)?;
-        let mut asking = true;
-        while asking {
+    for _ in 0..nodes.len() {
+        contribute(&mut pages.page, nodes.pop().ok_or(Stop::Command)?)?;
+        for _ in 0..u64::MAX {
             match next_page(&mut pages.page, &pages.rules) {
                 Ok(Some(part)) => {
                     show_part(&part, out)?;
                     pages.parts.push_back(part)?;
                     given = given.saturating_add(1);
                 }
-                Ok(None) => asking = false,
+                Ok(None) => break,
                 Err(stop) => return show_fault(&stop, out),
             }
         }

@@ -1,5 +1,5 @@
-use Rattle.std.proofs.Common.{◌≡◌, ◌∙◌, ◌++◌, ◌∷◌, [], List, Option, ap, sym, ℤ, to_z, of_z, w32, FitsSigned, arith, rules}
-use Rattle.std.proofs.lemmas.Int.{ints, to_z-of_z}
+use Rattle.std.proofs.Common.{◌≡◌, ◌∙◌, ◌++◌, ◌∷◌, [], List, Option, ap, ℤ, to_z, of_z, w32, arith, rules}
+use Rattle.std.proofs.lemmas.Int.{ints}
 use Rattle.lb_base.specs.declared.node.Boxed.{Boxed}
 use Rattle.lb_base.specs.declared.node.Node.{Node}
 use Rattle.lb_model_paper.specs.PageBoxes.{box_at, feet_items, foot_items, foot_of, head_items, head_of, kern}

@@ -1,4 +1,4 @@
-use Rattle.std.proofs.Common.{◌≡◌, ◌∙◌, ◌++◌, ap, sym, subst, ℤ, pos, neg_ℤ, ◌-ℤ◌, to_z, of_z, w32, FitsSigned, arith, rules}
+use Rattle.std.proofs.Common.{◌∙◌, ◌++◌, ap, sym, subst, ℤ, pos, neg_ℤ, ◌-ℤ◌, to_z, of_z, w32, FitsSigned, arith, rules}
 use Rattle.std.proofs.lemmas.Int.{ints, to_z-of_z}
 use Rattle.lb_model_paper.specs.PageBoxes.{head_items}
 use Rattle.lb_output.specs.Building.{IsNegatableBox}

@@ -1,4 +1,4 @@
-use Rattle.std.proofs.Common.{◌≡◌, ◌∙◌, ap, sym, subst, ℤ, to_z, of_z, w32, pos, arith}
+use Rattle.std.proofs.Common.{◌≡◌, ◌∙◌, ap, sym, subst, ℤ, to_z, of_z, w32, arith}
 use Rattle.std.proofs.lemmas.Int.{ints}
 use Rattle.lb_base.specs.declared.glue.Target.TheVariants.{To}
 use Rattle.lb_base.specs.declared.node.Axis.TheVariants.{Horizontal}

@@ -1,6 +1,5 @@
 use Rattle.std.proofs.Common.{subst, Option, Result}
 use Rattle.lb_base.specs.Answers.{Answers}
-use Rattle.lb_base.specs.declared.fault.Kind.{Kind}
 use Rattle.lb_base.specs.declared.fault.Stop.{Stop}
 use Rattle.lb_base.specs.declared.node.Boxed.{Boxed}
 use Rattle.lb_output.proofs.whole.both.Goals as goal

@@ -1,17 +1,14 @@
-use Rattle.std.proofs.Common.{◌≡◌, ◌∙◌, ap, sym, subst, Bool, Option, Result, Ok, Err, List, ℤ, to_z, of_z, w32, w64, FitsSigned, arith, rules, if◌then◌else◌}
+use Rattle.std.proofs.Common.{◌≡◌, ◌∙◌, ap, sym, subst, Bool, Option, Result, ℤ, to_z, of_z, w32, w64, FitsSigned, arith, rules, if◌then◌else◌}
 use Rattle.std.proofs.lemmas.Int.{ints, to_z-of_z}
 use Rattle.lb_base.specs.Answers.{Answers}
 use Rattle.lb_base.specs.declared.fault.Kind.{Kind}
-use Rattle.lb_base.specs.declared.fault.Stop.{Stop}
 use Rattle.lb_base.specs.declared.glue.Target.TheVariants.{To}
 use Rattle.lb_base.specs.declared.node.Axis.TheVariants.{Vertical}
 use Rattle.lb_base.specs.declared.node.Boxed.{Boxed}
-use Rattle.lb_base.specs.declared.node.Node.{Node}
 use Rattle.lb_model_paper.specs.Boxes.{packs}
 use Rattle.lb_model_paper.specs.Nodes.{shown}
 use Rattle.lb_model_paper.specs.PageBoxes.{is_odd, margin_of, page_items, running_box}
 use Rattle.lb_output.specs.Layouts.{items_by}
-use Rattle.lb_output.specs.Running.{running_by}
 use Rattle.lb_output.proofs.Wholes.{fails, items-same, large, layout-of, passes, running-is, same-heights, same-small}
 use Rattle.lb_output.proofs.whole.page_box.Goals as goal
 
