@@ -3,6 +3,7 @@
 
 mod cell_map;
 mod kept_map;
+pub mod laws;
 mod saves;
 mod slots;
 
