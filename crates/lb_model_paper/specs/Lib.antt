@@ -10,6 +10,7 @@ pub mod Lines
 pub mod Marks
 pub mod Nodes
 pub mod PageBoxes
+pub mod PageMarks
 pub mod Pages
 pub mod Rows
 pub mod TestFont

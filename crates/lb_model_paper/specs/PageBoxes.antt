@@ -1,6 +1,6 @@
 -- The box of a page: its head, its body, its footnotes and its foot (source2e on the output routine; lengths of this project's own).
 -- Lengths are in scaled points.
-use Rattle.std.specs.Prelude.{ℕ, ◌%◌, ◌==◌, Bool, true, false, not, ◌&&◌, List, [], ◌∷◌, ◌++◌, map, if◌then◌else◌, Option, None, Some, option_map, Result, Ok, Err, ℤ, pos, neg_ℤ, nat_abs, nat_lt, ◌+ℤ◌}
+use Rattle.std.specs.Prelude.{◌%◌, ◌==◌, Bool, true, ◌&&◌, List, [], ◌∷◌, ◌++◌, map, if◌then◌else◌, Option, None, Some, Result, Ok, Err, ℤ, pos, neg_ℤ, nat_abs, nat_lt, ◌+ℤ◌}
 use Rattle.lb_base.specs.declared.fault.Kind.{Kind}
 use Rattle.lb_base.specs.declared.fault.Kind.TheVariants.{DepthLimit, DimenTooLarge}
 use Rattle.lb_base.specs.declared.glue.Order.TheVariants.{Finite}

@@ -1,6 +1,6 @@
 -- Where pages end (The TeXbook, chapter 15; tex.web, part 45; whole footnotes are moved to the page on which they stand).
 -- Lengths are in scaled points.
-use Rattle.std.specs.Prelude.{ℕ, zero, suc, ◌+◌, ◌==◌, Bool, true, false, not, ◌&&◌, ◌||◌, List, [], ◌∷◌, ◌++◌, length, take, drop, filter, slice_get, if◌then◌else◌, Option, None, Some, option_map, Result, Ok, Err, ℤ, pos, neg_ℤ, int_lt, int_le, ◌+ℤ◌, ◌-ℤ◌}
+use Rattle.std.specs.Prelude.{ℕ, zero, suc, Bool, true, false, not, ◌&&◌, ◌||◌, List, [], ◌∷◌, ◌++◌, length, take, drop, filter, slice_get, if◌then◌else◌, Option, None, Some, option_map, Result, Ok, Err, ℤ, pos, neg_ℤ, int_lt, int_le, ◌+ℤ◌, ◌-ℤ◌}
 use Rattle.std.specs.Int.{int_max, int_min, is_negative}
 use Rattle.std.specs.List.{fold}
 use Rattle.lb_base.specs.Badness.{badness_of}

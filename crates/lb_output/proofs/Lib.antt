@@ -1,3 +1,4 @@
 mod Behind
 mod Joining
+mod Marking
 mod Wholes

@@ -3,8 +3,10 @@
 
 mod building;
 mod heights;
+mod marks;
 mod running;
 mod whole;
 
 pub use lb_model_paper::pages::{HeadFoot, PageLengths, PageLook, PagePart};
+pub use marks::{PageMarks, page_marks};
 pub use whole::page_box;

@@ -4,8 +4,10 @@ mod Ending
 mod Filled
 mod Fits
 mod Given
+mod LastCheapest
 mod Opening
 mod OrderAmounts
+mod PageAndRest
 mod Planning
 mod Standing
 mod Stepping

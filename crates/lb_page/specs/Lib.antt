@@ -1,6 +1,7 @@
 pub mod Bounds
 pub mod Ends
 pub mod Fillings
+pub mod Laws
 pub mod Places
 pub mod Plans
 pub mod Searches

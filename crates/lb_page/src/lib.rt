@@ -8,6 +8,7 @@ mod end;
 mod filling;
 mod giving;
 mod kinds;
+pub mod laws;
 mod page_list;
 mod pages;
 mod places;

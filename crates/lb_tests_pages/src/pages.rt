@@ -1,8 +1,9 @@
 //! Commands for pages: `pagerules ..`, `page N` and `give N` for the last N nodes of the current list,
-//! `ask`, `flush`, `emptypage`, and `ship ..` for the box of the first page that waits.
+//! `ask`, `flush`, `emptypage`, and for the first page that waits `pagemarks` for its marks and `ship ..` for
+//! its box.
 use crate::trees::{show_box, show_nodes};
 use lb_base::{Boxed, Glue, Node, NodeList, Order};
-use lb_output::{HeadFoot, PageLengths, PageLook, page_box};
+use lb_output::{HeadFoot, PageLengths, PageLook, page_box, page_marks};
 use lb_page::{PageList, PagePart, PageRules, contribute, flush, next_page};
 use lb_tests_lists::fault::show_fault;
 use lb_tests_lists::lists::{order, taken};
@@ -66,6 +67,7 @@ pub fn show(
             pages.page = PageList::new(alloc);
             pages.parts = VecDeque::new(alloc);
         }
+        ["pagemarks"] => show_marks(pages.parts.front().ok_or(Stop::Command)?, out)?,
         ["ship", number, style, lengths @ .., digits, marks] => {
             let lengths = lengths_of(lengths)?;
             let digits = taken(alloc, list, count(digits)?)?;
@@ -240,6 +242,27 @@ fn show_part(part: &PagePart, out: &mut String) -> Result<(), Stop> {
     write!(out, " feet")?;
     show_nodes(part.feet.as_slice(), out)?;
     writeln!(out, "")?;
+    Ok(())
+}
+
+fn show_marks(part: &PagePart, out: &mut String) -> Result<(), Stop> {
+    let marks = page_marks(part.items.as_slice());
+    write!(out, "marks first-right ")?;
+    show_mark(marks.first_right, out)?;
+    write!(out, " last-left ")?;
+    show_mark(marks.last_left, out)?;
+    write!(out, " last-right ")?;
+    show_mark(marks.last_right, out)?;
+    writeln!(out, "")?;
+    Ok(())
+}
+
+/// A part of a mark, or `-` where there is none.
+fn show_mark(boxed: Option<&Boxed>, out: &mut String) -> Result<(), Stop> {
+    match boxed {
+        Some(boxed) => show_box(boxed, out)?,
+        None => write!(out, "-")?,
+    }
     Ok(())
 }
 
