@@ -1,9 +1,10 @@
 -- Texts that stand one behind the other: how one is read and how one changes.
-use Rattle.std.proofs.Common.{◌≡◌, ℕ, ◌+◌, ◌<◌, ◌≤◌, List, [], ◌∷◌, ◌++◌, length, take, drop, get_or, sum, refl, sym, ◌∙◌, ap, zero, suc, zero-add, add_assoc, append_assoc, arith, length-append, length-drop, ◌-◌}
+use Rattle.std.proofs.Common.{◌≡◌, ℕ, Bool, cond, Option, Some, ◌+◌, ◌<◌, ◌≤◌, List, [], ◌∷◌, ◌++◌, length, take, drop, get_or, sum, refl, sym, ◌∙◌, ap, zero, suc, zero-add, suc-add, add_assoc, append_assoc, arith, length-append, length-drop, ◌-◌}
 use Rattle.std.proofs.Math.ListN.{set}
-use Rattle.std.proofs.Math.Seq.{take-append_seam, drop-append_seam, take-add}
-use Rattle.std.proofs.lemmas.List.{length-take-le, drop-drop}
+use Rattle.std.proofs.Math.Seq.{take-append_seam, drop-append_seam, take-add, take-length}
+use Rattle.std.proofs.lemmas.List.{length-take-le, drop-drop, take-append-le, drop-append-le}
 use Rattle.std.proofs.lemmas.List.Sums.{sum_by-cons, sum_by-set, sum_by_more_le}
+use Rattle.std.specs.List.{position_from}
 use Rattle.lb_files.specs.Cut.{cut}
 
 sum_cons : (x : ℕ) (xs : List ℕ) → sum (x ∷ xs) ≡ x + sum xs
@@ -13,9 +14,39 @@ pub cut_long : (lengths bytes : List ℕ) → length (cut lengths bytes) ≡ len
 cut_long [] bytes = refl
 cut_long (n ∷ lengths) bytes = ap suc (cut_long lengths (drop n bytes))
 
-pub cut_push : (lengths bytes : List ℕ) → cut (lengths ++ 0 ∷ []) bytes ≡ cut lengths bytes ++ [] ∷ []
-cut_push [] bytes = refl
-cut_push (n ∷ lengths) bytes = ap (λ l. take n bytes ∷ l) (cut_push lengths (drop n bytes))
+pub cut_push : (lengths bytes text : List ℕ) → sum lengths ≡ length bytes → cut (lengths ++ length text ∷ []) (bytes ++ text) ≡ cut lengths bytes ++ text ∷ []
+cut_push [] [] text all = ap (λ t. t ∷ []) (take-length text)
+cut_push [] (b ∷ bytes) text all = absurd (omega arith)
+cut_push (n ∷ lengths) bytes text all =
+    let within : n ≤ length bytes = omega (arith, sum_cons n lengths) in
+    let rest : sum lengths ≡ length (drop n bytes) = omega (arith, sum_cons n lengths, length-drop n bytes) in
+    ap (λ t. t ∷ cut (lengths ++ length text ∷ []) (drop n (bytes ++ text))) (take-append-le n bytes text within)
+    ∙ ap (λ b. take n bytes ∷ cut (lengths ++ length text ∷ []) b) (drop-append-le n bytes text within)
+    ∙ ap (λ l. take n bytes ∷ l) (cut_push lengths (drop n bytes) text rest)
+
+-- One turn of a walk over the texts: those from place i on begin with the text of n bytes that starts at s.
+pub next_text : (lengths bytes : List ℕ) (i s n : ℕ) → i < length lengths → n ≡ get_or lengths i n → cut (drop i lengths) (drop s bytes) ≡ take n (drop s bytes) ∷ cut (drop (i + 1) lengths) (drop (s + n) bytes)
+next_text [] bytes i s n h e = absurd (omega arith)
+next_text (m ∷ lengths) bytes zero s n h e =
+    let same : m ≡ n = sym e in
+    ap (λ k. take k (drop s bytes) ∷ cut lengths (drop k (drop s bytes))) same
+    ∙ ap (λ b. take n (drop s bytes) ∷ cut lengths b) (drop-drop n s bytes)
+next_text (m ∷ lengths) bytes (suc i) s n h e =
+    next_text lengths bytes i s n (omega arith) e ∙ ap (λ k. take n (drop s bytes) ∷ cut (drop k (m ∷ lengths)) (drop (s + n) bytes)) (sym (suc-add i 1))
+
+sum_from : (lengths : List ℕ) (i n : ℕ) → i < length lengths → n ≡ get_or lengths i n → sum (drop i lengths) ≡ n + sum (drop (i + 1) lengths)
+sum_from [] i n h e = absurd (omega arith)
+sum_from (m ∷ lengths) zero n h e = sum_cons m lengths ∙ ap (λ k. k + sum lengths) (sym e)
+sum_from (m ∷ lengths) (suc i) n h e = sum_from lengths i n (omega arith) e ∙ ap (λ k. n + sum (drop k (m ∷ lengths))) (sym (suc-add i 1))
+
+pub left_after : (lengths : List ℕ) (i s n all : ℕ) → i < length lengths → n ≡ get_or lengths i n → s + sum (drop i lengths) ≡ all → s + n + sum (drop (i + 1) lengths) ≡ all
+left_after lengths i s n all h e left = omega (arith, sum_from lengths i n h e)
+
+pub found_or_after : (p : List ℕ → Bool) (lengths bytes : List ℕ) (found : Option ℕ) (i s n : ℕ) → i < length lengths → n ≡ get_or lengths i n → found ≡ position_from p i (cut (drop i lengths) (drop s bytes)) → found ≡ cond (p (take (s + n - s) (drop s bytes))) (Some i) (position_from p (i + 1) (cut (drop (i + 1) lengths) (drop (s + n) bytes)))
+found_or_after p lengths bytes found i s n h e whole =
+    let same : n ≡ s + n - s = omega arith in
+    whole ∙ ap (position_from p i) (next_text lengths bytes i s n h e)
+    ∙ ap (λ k. cond (p (take k (drop s bytes))) (Some i) (position_from p (i + 1) (cut (drop (i + 1) lengths) (drop (s + n) bytes)))) same
 
 pub text_there : (lengths bytes : List ℕ) (i d : ℕ) → i < length lengths → get_or (cut lengths bytes) i [] ≡ take (get_or lengths i d) (drop (sum (take i lengths)) bytes)
 text_there [] bytes i d h = absurd (omega arith)

@@ -1,3 +1,4 @@
 pub mod Cut
 pub mod Loaded
+pub mod Steps
 pub mod Texts

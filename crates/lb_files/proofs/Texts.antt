@@ -33,6 +33,9 @@ first_at file names i e =
     let h = position-Some (is file) names i [] e in
     record { within = h.0; here = h.1; before = h.2 }
 
+pub found_name : (file : List ℕ) (names : List (List ℕ)) (i : ℕ) → position (is file) names ≡ Some i → (i < length names) × (get_or names i [] ≡ file)
+found_name file names i e = let at = first_at file names i e in (at.within, sym (same_text file (get_or names i []) (sym at.here)))
+
 none_at : (p : List ℕ → Bool) (i : ℕ) (names : List (List ℕ)) → position_from p i names ≡ None → list_any p names ≡ false
 none_at p i [] e = refl
 none_at p i (name ∷ names) e =

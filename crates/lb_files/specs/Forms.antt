@@ -1,5 +1,5 @@
 -- What the forms in memory tell.
-use Rattle.std.specs.Prelude.{ℕ, List, Option, ◌+◌, ◌-◌, ◌^◌, min}
+use Rattle.std.specs.Prelude.{ℕ, Bool, List, Option, ◌+◌, ◌-◌, ◌^◌, min}
 use Rattle.std.specs.Prelude.{refl}
 use Rattle.std.specs.Coded.{Coded, code_by, coded×, coded_ℕ, coded_list}
 use Rattle.std.specs.FinMap as map
@@ -30,6 +30,19 @@ pub record SaidForm : Type 0 where
 pub record SureSaidForm : Type 0 where
   pub bytes : Option (List ℕ)
   pub room : ℕ
+
+-- What was done, where nothing was dropped, how many entries more there is room for, and whether the names of the files
+-- stand in the list that is lent.
+pub record SureOutletForm : Type 0 where
+  pub journal : Option (List Entry)
+  pub room : ℕ
+  pub is_listed : Bool
+
+-- texts in one buffer, and for how many bytes and texts more there is room
+pub record PoolForm : Type 0 where
+  pub texts : List (List ℕ)
+  pub room : ℕ
+  pub places : ℕ
 
 -- a count of faults after one more, which stops at the last number that the counter holds
 abbrev pub one_more : ℕ → ℕ
