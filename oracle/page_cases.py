@@ -15,8 +15,6 @@ desk = type('Whole', (Pages, Desk), {})('.')
 
 
 def say(*words):
-    if words[0] == 'pagemarks':
-        return []
     print(*words)
     return desk.run(*map(str, words))
 
