@@ -3,8 +3,8 @@
 # prose of 80, 1,000 and 10,000 words. Tells the times of the breaking alone, and where valgrind is at
 # hand the instructions an item. It is no test: times depend on the machine.
 here=$(dirname "$(readlink -f "$0")")
-program=$here/../crates/lb_tests_paper/out/lb_tests_paper
-[ -x "$program" ] || (cd "$here/../crates/lb_tests_paper" && rt run <stdin >/dev/null 2>&1)
+program=$here/../crates/lb_tests_pages/out/lb_tests_pages
+[ -x "$program" ] || (cd "$here/../crates/lb_tests_pages" && rt run <stdin >/dev/null 2>&1)
 work=$(mktemp -d) || exit 1
 trap 'rm -rf "$work"' EXIT
 
