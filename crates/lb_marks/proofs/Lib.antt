@@ -1,3 +1,4 @@
 pub mod Boxes
+pub mod Characters
 pub mod MarkLists
 pub mod Pages

@@ -1,16 +1,17 @@
 //! The marks of a box and of the boxes in it.
-ghost use Rattle.std.specs.Prelude.{◌≡◌, ◌++◌, ◌∷◌, [], true, ◌&&◌, ◌+ℤ◌, OnOk, IfErr};
+ghost use Rattle.std.specs.Prelude.{◌≡◌, ◌++◌, ◌∷◌, [], true, ◌&&◌, ◌+ℤ◌, OnOk, IfOk, IfErr};
 ghost use Rattle.lb_base.specs.declared.page.Mark.TheVariants.{Char, Rule};
 ghost use Rattle.std.specs.List.{list_all};
 ghost use Rattle.lb_model_paper.specs.Dvi.{is_small};
 ghost use Rattle.lb_model_paper.specs.Marks.{is_length, is_small_mark, marks_at, node_marks, rule_in, rule_mark};
 ghost use Rattle.lb_model_paper.specs.Nodes.{along};
-ghost use Rattle.lb_marks.specs.Spots.{IsMarkStop, size_of_rule, spot_of};
+ghost use Rattle.lb_marks.specs.Spots.{IsMarkStop, baseline_of_char, mark_of_char, room_of_char, size_of_rule, spot_of};
 
-use crate::place::{Spot, baseline_of, moved, spot_along};
-use lb_base::{Axis, Boxed, FontId, Kind, Mark, MarkList, Node, RuleSize, Stop};
+use crate::place::{Spot, baseline_of, baseline_of_char, moved, spot_along};
+use lb_base::{Axis, Boxed, FontId, Kind, Mark, MarkList, Metrics, Node, RuleSize, Stop};
 use lb_nodes::Shifts;
 use lb_nodes::sizes::{Size, along};
+use std::alloc::AllocError;
 
 /// Whether a length is below 2^30 in size.
 fn is_small(length: i128) -> bool
@@ -62,6 +63,36 @@ fn held_height(length: i64) -> i32
     length as i32
 }
 
+/// The room that a character takes along its list.
+fn room_of_char(axis: Axis, metrics: Metrics) -> i64
+    ensures { result ≡ room_of_char axis metrics }
+{
+    match axis {
+        Axis::Horizontal => i64::from(metrics.width),
+        Axis::Vertical => i64::from(metrics.height) + i64::from(metrics.depth),
+    }
+}
+
+/// Puts a character with this place behind some marks.
+fn put_char(
+    marks: &mut MarkList,
+    h: i32,
+    v: i32,
+    font: &FontId,
+    code: u8,
+    width: i32,
+) -> Result<(), AllocError>
+    ensures { OnOk result (marks.new ≡ marks.old ++ Char h v font.now code width ∷ []) }
+{
+    marks.push(Mark::Char {
+        h,
+        v,
+        font: font.clone()?,
+        code,
+        width,
+    })
+}
+
 /// Puts a character behind some marks, if its place and its right end are small.
 fn push_char(
     marks: &mut MarkList,
@@ -77,14 +108,28 @@ fn push_char(
     if !is_small_char(spot, width) {
         return Err(Stop::Fault(Kind::DimenTooLarge));
     }
-    marks.push(Mark::Char {
-        h: held(spot.h),
-        v: held(spot.v),
-        font: font.clone()?,
-        code,
-        width,
-    })?;
+    put_char(marks, held(spot.h), held(spot.v), font, code, width)?;
     Ok(())
+}
+
+/// The same of an item that is a character, which begins at a spot. It answers the room that the item
+/// takes along the list.
+fn push_item(
+    marks: &mut MarkList,
+    axis: Axis,
+    begin: Spot,
+    metrics: Metrics,
+    font: &FontId,
+    code: u8,
+) -> Result<i64, Stop>
+    ensures ok { OnOk result (marks.new ≡ marks.old ++ mark_of_char (baseline_of_char axis (spot_of begin) metrics.height) font.now code metrics.width ∷ []) }
+    ensures small { OnOk result (is_small_mark (mark_of_char (baseline_of_char axis (spot_of begin) metrics.height) font.now code metrics.width) ≡ true) }
+    ensures room { IfOk result (λ room. room ≡ room_of_char axis metrics) }
+    ensures stop { IfErr result (IsMarkStop (mark_of_char (baseline_of_char axis (spot_of begin) metrics.height) font.now code metrics.width ∷ [])) }
+{
+    let spot = baseline_of_char(axis, begin, metrics.height)?;
+    push_char(marks, spot, font, code, metrics.width)?;
+    Ok(room_of_char(axis, metrics))
 }
 
 /// The size of a rule in a box, to which it runs across the list where its size is open.
@@ -140,17 +185,32 @@ fn push_rule(marks: &mut MarkList, spot: Spot, size: Size) -> Result<(), Stop>
     push_rule_at(marks, spot.h, v, height_of(size), size.width)
 }
 
-/// The room that a node takes along its list.
-fn room_of(axis: Axis, node: &Node) -> i128
-    ensures { result ≡ along axis node.now }
+/// Puts the marks of an item of a box, which begins at a spot, behind others, and answers the room
+/// that the item takes along the list.
+#[cycle(drawing)]
+fn push_node(node: &Node, boxed: &Boxed, begin: Spot, marks: &mut MarkList) -> Result<i64, Stop>
+    ensures ok { OnOk result (marks.new ≡ marks.old ++ node_marks marks_at boxed.now (spot_of begin) node.now) }
+    ensures small { OnOk result (list_all is_small_mark (node_marks marks_at boxed.now (spot_of begin) node.now) ≡ true) }
+    ensures room { IfOk result (λ room. room ≡ along boxed.now.axis node.now) }
+    ensures stop { IfErr result (IsMarkStop (node_marks marks_at boxed.now (spot_of begin) node.now)) }
 {
-    i128::from(along(axis, node))
+    match node {
+        Node::Char {
+            code,
+            metrics,
+            font,
+        } => push_item(marks, boxed.axis, begin, *metrics, font, *code),
+        _ => {
+            push_rare(node, boxed, begin, marks)?;
+            Ok(along(boxed.axis, node))
+        }
+    }
 }
 
 /// Puts the marks of an item of a box, which begins at a spot, behind others.
 #[cycle(drawing)]
 #[tactic(auto, unfolding(lb_model_paper::specs::Marks::node_marks))]
-fn push_node(node: &Node, boxed: &Boxed, begin: Spot, marks: &mut MarkList) -> Result<(), Stop>
+fn push_rare(node: &Node, boxed: &Boxed, begin: Spot, marks: &mut MarkList) -> Result<(), Stop>
     ensures ok { OnOk result (marks.new ≡ marks.old ++ node_marks marks_at boxed.now (spot_of begin) node.now) }
     ensures small { OnOk result (list_all is_small_mark (node_marks marks_at boxed.now (spot_of begin) node.now) ≡ true) }
     ensures stop { IfErr result (IsMarkStop (node_marks marks_at boxed.now (spot_of begin) node.now)) }
@@ -191,10 +251,11 @@ pub fn push_box(boxed: &Boxed, spot: Spot, marks: &mut MarkList) -> Result<(), S
     for node in boxed.items.as_slice() {
         let along = moved(room, shift)?;
         let begin = spot_along(boxed.axis, boxed.height, spot, along)?;
-        if let Err(stop) = push_node(node, boxed, begin, marks) {
-            return Err(stop);
-        }
-        room = moved(room, room_of(boxed.axis, node))?;
+        let taken = match push_node(node, boxed, begin, marks) {
+            Ok(taken) => taken,
+            Err(stop) => return Err(stop),
+        };
+        room = moved(room, i128::from(taken))?;
         shift = shifts.through(node);
     }
     Ok(())

@@ -6,6 +6,7 @@ use Rattle.lb_model_paper.specs.Marks.{is_small_mark, marks_at, node_marks, Spot
 use Rattle.lb_nodes.specs.Setting.{shift_given}
 use Rattle.lb_marks.specs.Spots.{spot_of}
 use Rattle.lb_marks.proofs.Boxes.{given_turn, going_end, going_end_small, going_start, going_turn, item_spot-is, near_turn, no_part, no_shift, own_marks, room_turn, stop_turn}
+use Rattle.lb_marks.proofs.Characters.{char_layer, char_marks, room_of_char-is}
 use Rattle.lb_marks.proofs.drawing.+drawing.Goals as goal
 
 pub push_box-loop-node-init : goal.push_box-loop-node-init
@@ -46,13 +47,13 @@ push_box-loop-node-preserved t c =
     let sum : to_z w128 (of_z w128 c.in_ok-along.along) ≡ to_z w128 c.loop-node.room-bits +ℤ to_z w128 c.loop-node.shift-bits = search rules in
     let begin : spot_of c.in_ok-begin.begin ≡ spot_along box.axis box.height spot (to_z w128 (of_z w128 c.in_ok-along.along)) = search rules in
     let at = item_spot-is box spot (spot_of c.in_ok-begin.begin) (to_z w128 (of_z w128 c.in_ok-along.along)) (to_z w128 c.loop-node.room-bits) (to_z w128 c.loop-node.shift-bits) k begin sum c.loop-node.invariant.room c.loop-node.invariant.shift in
-    let put : c.push_node.new.marks ≡ c.loop-node.marks ++ own_marks box spot k node = c.in_default.ensures.ok ∙ ap (λ (s : Spot). c.loop-node.marks ++ node_marks marks_at box s node) at in
-    let small : list_all is_small_mark (own_marks box spot k node) ≡ true = ap (λ (s : Spot). list_all is_small_mark (node_marks marks_at box s node)) (sym at) ∙ c.in_default.ensures.small in
+    let put : c.push_node.new.marks ≡ c.loop-node.marks ++ own_marks box spot k node = c.in-Ok.ensures.ok ∙ ap (λ (s : Spot). c.loop-node.marks ++ node_marks marks_at box s node) at in
+    let small : list_all is_small_mark (own_marks box spot k node) ≡ true = ap (λ (s : Spot). list_all is_small_mark (node_marks marks_at box s node)) (sym at) ∙ c.in-Ok.ensures.small in
     let given = given_turn box k c.loop-node.shifts c.through-shift.new.self node within long is c.loop-node.invariant.given c.loop-node.invariant.near c.through-shift.ensures.give c.through-shift.ensures.given in
     let shift : to_z w128 (of_z w128 c.through-shift.result) ≡ shift_given c.through-shift.new.self = search rules in
     record {
       going = going_turn box spot c.args.marks.now c.loop-node.marks c.push_node.new.marks k node within is put small c.loop-node.invariant.going;
-      room = room_turn box.axis box.items k node (to_z w128 c.loop-node.room-bits) (to_z w128 (of_z w128 c.room_of.result)) (to_z w128 (of_z w128 c.in_ok-room.room)) within is c.loop-node.invariant.room (search rules) (search rules);
+      room = room_turn box.axis box.items k node (to_z w128 c.loop-node.room-bits) (to_z w128 (of_z w128 c.from.result)) (to_z w128 (of_z w128 c.in_ok-room.room)) within is c.loop-node.invariant.room (search rules) (search rules);
       shift = shift ∙ ap shift_given given;
       given = given;
       near = near_turn k c.loop-node.shifts c.through-shift.new.self node most c.loop-node.invariant.near c.through-shift.ensures.give c.through-shift.ensures.given;
@@ -69,3 +70,15 @@ push_box-returns-clause-small t c =
     let same : c.as_slice-node-items.result.now ≡ c.args.boxed.now.items = search rules in
     let past : length c.args.boxed.now.items ≤ c.loop-node.node-index = subst (λ (ns : List Node). length ns ≤ c.loop-node.node-index) same c.loop-node-test.false in
     going_end_small c.args.boxed.now (spot_of c.args.spot) c.args.marks.now c.loop-node.marks c.loop-node.node-index past c.loop-node.invariant.going
+
+pub push_node-returns-in-Char-clause-ok : goal.push_node-returns-in-Char-clause-ok
+push_node-returns-in-Char-clause-ok t c = rw (char_marks c.args.boxed.now (spot_of c.args.begin) c.args.node.now _ _ _ (char_layer c.args.node.now _ _ _ c.in-Char.is)) (search rules)
+
+pub push_node-returns-in-Char-clause-small : goal.push_node-returns-in-Char-clause-small
+push_node-returns-in-Char-clause-small t c = rw (char_marks c.args.boxed.now (spot_of c.args.begin) c.args.node.now _ _ _ (char_layer c.args.node.now _ _ _ c.in-Char.is)) (search rules)
+
+pub push_node-returns-in-Char-clause-room : goal.push_node-returns-in-Char-clause-room
+push_node-returns-in-Char-clause-room t c = let same = room_of_char-is c.args.boxed.now.axis c.args.node.now _ _ _ (char_layer c.args.node.now _ _ _ c.in-Char.is) in search (rules, same)
+
+pub push_node-returns-in-Char-clause-stop : goal.push_node-returns-in-Char-clause-stop
+push_node-returns-in-Char-clause-stop t c = rw (char_marks c.args.boxed.now (spot_of c.args.begin) c.args.node.now _ _ _ (char_layer c.args.node.now _ _ _ c.in-Char.is)) (search rules)
