@@ -119,7 +119,7 @@ impl Pen {
         if !is_shown(height, width) {
             return Ok(());
         }
-        self.push_moves(out, h, v)?;
+        self.push_both_moves(out, h, v)?;
         out.push(PUT_RULE)?;
         push_signed(out, height)?;
         push_signed(out, width)?;

@@ -1,5 +1,5 @@
 -- Places and marks as the code comes to them.
-use Rattle.std.specs.Prelude.{◌≡◌, ◌≤◌, List, length, false, ⊤, ℕ, ℤ, ◌+ℤ◌}
+use Rattle.std.specs.Prelude.{◌≡◌, ◌≤◌, List, length, true, false, ⊤, ℕ, ℤ, ◌+ℤ◌}
 use Rattle.std.specs.List.{list_all}
 use Rattle.lb_base.specs.declared.fault.Kind.TheVariants.{DimenTooLarge}
 use Rattle.lb_base.specs.declared.fault.Stop.{Stop}
@@ -11,7 +11,9 @@ use Rattle.lb_marks.specs.declared.place.Spot.{Spot}
 use Rattle.lb_model_paper.specs.Marks as marks
 use Rattle.lb_model_paper.specs.Nodes as nodes
 use Rattle.lb_nodes.specs.declared.sizes.Size.{Size}
-use Rattle.lb_model_paper.specs.Marks.{is_small_mark}
+use Rattle.lb_model_paper.specs.Dvi.{is_small}
+use Rattle.lb_model_paper.specs.Marks.{is_small_mark, spot_along}
+use Rattle.lb_marks.specs.declared.drawing.Stand.{Stand}
 use Rattle.lb_base.specs.declared.font.Metrics.{Metrics}
 use Rattle.lb_base.specs.declared.node.Axis.{Axis}
 use Rattle.lb_base.specs.declared.node.Axis.TheVariants.{Horizontal, Vertical}
@@ -45,3 +47,11 @@ baseline_of_char Vertical spot height = record { h = spot.h; v = spot.v +ℤ hei
 
 abbrev pub mark_of_char : marks.Spot → FontId → ℕ → ℤ → Mark
 mark_of_char spot font code width = Char spot.h spot.v font code width
+
+-- where an item of a horizontal box stands that begins so far along it: the place is small
+pub record IsStand (axis : Axis) (height : ℤ) (spot : marks.Spot) (along : ℤ) (at : Stand) : Type 0 where
+  pub horizontal : axis ≡ Horizontal
+  pub h : at.h ≡ spot.h +ℤ along
+  pub v : at.v ≡ spot.v
+  pub left : is_small at.h ≡ true
+  pub baseline : is_small at.v ≡ true

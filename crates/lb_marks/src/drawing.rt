@@ -1,11 +1,13 @@
 //! The marks of a box and of the boxes in it.
-ghost use Rattle.std.specs.Prelude.{◌≡◌, ◌++◌, ◌∷◌, [], true, ◌&&◌, ◌+ℤ◌, OnOk, IfOk, IfErr};
+ghost use Rattle.std.specs.Prelude.{◌≡◌, ◌++◌, ◌∷◌, [], true, ◌&&◌, ◌+ℤ◌, IfSome, OnSome, OnOk, IfOk, IfErr};
+ghost use Rattle.lb_base.specs.declared.fault.Stop.TheVariants.{Memory};
+ghost use Rattle.lb_base.specs.declared.node.Axis.TheVariants.{Horizontal};
 ghost use Rattle.lb_base.specs.declared.page.Mark.TheVariants.{Char, Rule};
 ghost use Rattle.std.specs.List.{list_all};
 ghost use Rattle.lb_model_paper.specs.Dvi.{is_small};
 ghost use Rattle.lb_model_paper.specs.Marks.{is_length, is_small_mark, marks_at, node_marks, rule_in, rule_mark};
 ghost use Rattle.lb_model_paper.specs.Nodes.{along};
-ghost use Rattle.lb_marks.specs.Spots.{IsMarkStop, baseline_of_char, mark_of_char, room_of_char, size_of_rule, spot_of};
+ghost use Rattle.lb_marks.specs.Spots.{IsMarkStop, IsStand, baseline_of_char, mark_of_char, room_of_char, size_of_rule, spot_of};
 
 use crate::place::{Spot, baseline_of, baseline_of_char, moved, spot_along};
 use lb_base::{Axis, Boxed, FontId, Kind, Mark, MarkList, Metrics, Node, RuleSize, Stop};
@@ -91,6 +93,102 @@ fn put_char(
         code,
         width,
     })
+}
+
+/// Where an item of a horizontal box stands, if that is small.
+#[derive(Clone, Copy)]
+pub struct Stand {
+    pub h: i32,
+    pub v: i32,
+}
+
+/// Where an item of a box stands, which begins so far along it, if the box is horizontal and the place
+/// is small. Behind a character it is known already.
+fn stand_of(
+    known: Option<Stand>,
+    boxed: &Boxed,
+    spot: Spot,
+    room: i128,
+    shift: i128,
+) -> Result<Option<Stand>, Stop>
+    requires { IfSome known (IsStand boxed.now.axis boxed.now.height (spot_of spot) (room +ℤ shift)) }
+    ensures ok { IfOk result (λ found. IfSome found (IsStand boxed.now.axis boxed.now.height (spot_of spot) (room +ℤ shift))) }
+    ensures err { IfErr result (λ stop. stop ≡ Memory) }
+{
+    if let Some(known) = known {
+        return Ok(Some(known));
+    }
+    let along = moved(room, shift)?;
+    let h = moved(spot.h, along)?;
+    Ok(small_stand(boxed.axis, h, spot.v))
+}
+
+fn small_stand(axis: Axis, h: i128, v: i128) -> Option<Stand>
+    ensures axis { OnSome result (axis ≡ Horizontal) }
+    ensures h { IfSome result (λ at. at.h ≡ h) }
+    ensures v { IfSome result (λ at. at.v ≡ v) }
+    ensures left { OnSome result (is_small h ≡ true) }
+    ensures baseline { OnSome result (is_small v ≡ true) }
+{
+    match axis {
+        Axis::Horizontal => {
+            if is_small(h) && is_small(v) {
+                Some(Stand {
+                    h: held(h),
+                    v: held(v),
+                })
+            } else {
+                None
+            }
+        }
+        Axis::Vertical => None,
+    }
+}
+
+/// The right end of a character.
+fn end_of(h: i32, width: i32) -> i64
+    ensures { result ≡ h +ℤ width }
+{
+    i64::from(h) + i64::from(width)
+}
+
+/// Whether the right end of a character is small.
+fn ends_small(end: i64) -> bool
+    ensures { result ≡ is_small end }
+{
+    -1_073_741_823 <= end && end <= 1_073_741_823
+}
+
+/// A small right end in 32 bits.
+fn held_end(end: i64) -> i32
+    requires { is_small end ≡ true }
+    ensures { result ≡ end }
+{
+    end as i32
+}
+
+/// Puts a character behind some marks whose place is small, if its right end is, and answers that end.
+fn push_standing(
+    marks: &mut MarkList,
+    at: Stand,
+    font: &FontId,
+    code: u8,
+    width: i32,
+) -> Result<i32, Stop>
+    requires left { is_small at.h ≡ true }
+    requires baseline { is_small at.v ≡ true }
+    ensures ok { OnOk result (marks.new ≡ marks.old ++ Char at.h at.v font.now code width ∷ []) }
+    ensures small { OnOk result (is_small_mark (Char at.h at.v font.now code width) ≡ true) }
+    ensures end { IfOk result (λ end. end ≡ at.h +ℤ width) }
+    ensures right { OnOk result (is_small (at.h +ℤ width) ≡ true) }
+    ensures stop { IfErr result (IsMarkStop (Char at.h at.v font.now code width ∷ [])) }
+{
+    let end = end_of(at.h, width);
+    if !ends_small(end) {
+        return Err(Stop::Fault(Kind::DimenTooLarge));
+    }
+    put_char(marks, at.h, at.v, font, code, width)?;
+    Ok(held_end(end))
 }
 
 /// Puts a character behind some marks, if its place and its right end are small.
@@ -248,7 +346,25 @@ pub fn push_box(boxed: &Boxed, spot: Spot, marks: &mut MarkList) -> Result<(), S
     let mut shifts = Shifts::over(boxed);
     let mut room = 0i128;
     let mut shift = 0i128;
+    let mut known: Option<Stand> = None;
     for node in boxed.items.as_slice() {
+        if let Node::Char {
+            code,
+            metrics,
+            font,
+        } = node
+        {
+            if let Some(at) = stand_of(known, boxed, spot, room, shift)? {
+                let end = match push_standing(marks, at, font, *code, metrics.width) {
+                    Ok(end) => end,
+                    Err(stop) => return Err(stop),
+                };
+                room = moved(room, i128::from(metrics.width))?;
+                known = Some(Stand { h: end, v: at.v });
+                continue;
+            }
+        }
+        known = None;
         let along = moved(room, shift)?;
         let begin = spot_along(boxed.axis, boxed.height, spot, along)?;
         let taken = match push_node(node, boxed, begin, marks) {
