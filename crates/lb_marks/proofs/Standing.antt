@@ -1,14 +1,12 @@
 -- Characters that stand one behind another in a horizontal box.
-use Rattle.std.proofs.Common.{◌≡◌, ℕ, ◌+◌, ◌*◌, ◌<◌, ◌≤◌, Bool, true, false, cond, ◌&&◌, List, [], ◌∷◌, ◌++◌, length, get_or, take, ℤ, pos, ◌+ℤ◌, refl, sym, ap, ◌∙◌, arith}
+use Rattle.std.proofs.Common.{◌≡◌, ℕ, ◌+◌, ◌*◌, ◌<◌, ◌≤◌, Bool, true, false, cond, ◌&&◌, List, [], ◌∷◌, length, get_or, take, ℤ, pos, ◌+ℤ◌, refl, sym, ap, ◌∙◌, arith}
 use Rattle.std.specs.List.{list_all}
 use Rattle.std.specs.Int.{is_negative}
 use Rattle.std.specs.Prelude.{unsigned_abs}
 use Rattle.std.proofs.lemmas.Int.{ints}
 use Rattle.lb_base.specs.declared.font.Metrics.{Metrics}
-use Rattle.lb_base.specs.declared.glue.GlueSet.{GlueSet}
 use Rattle.lb_base.specs.declared.glue.Order.{Order}
 use Rattle.lb_base.specs.declared.node.Axis.{Axis}
-use Rattle.lb_base.specs.declared.node.Axis.TheVariants.{Horizontal}
 use Rattle.lb_base.specs.declared.node.Boxed.{Boxed, out-Boxed}
 use Rattle.lb_base.specs.declared.node.HeadMark.TheOpen.{Char as CharLayer}
 use Rattle.lb_base.specs.declared.node.Node.{Node, out-Node}
