@@ -1,9 +1,9 @@
 -- Lengths with a sign, which a goal shows as they are read from their bits.
-use Rattle.std.proofs.Common.{◌≡◌, ℤ, ◌+ℤ◌, ◌-ℤ◌, arith, refl, w32, Bool, true, false, cond, Option, FitsSigned, to_z, of_z}
+use Rattle.std.proofs.Common.{◌≡◌, ℤ, ◌+ℤ◌, ◌-ℤ◌, pos, ℕ, List, [], ◌++◌, ap, ◌∙◌, arith, refl, w32, Bool, true, false, cond, Option, FitsSigned, to_z, of_z}
 use Rattle.std.proofs.lemmas.Int.{ints, to_z-of_z}
 use mir.Val.{SFits}
 use Rattle.lb_base.specs.declared.page.FontId.{FontId}
-use Rattle.lb_model_paper.specs.Dvi.{Pen, IsSmall}
+use Rattle.lb_model_paper.specs.Dvi.{Pen, IsSmall, move, moves}
 
 small_fits : (z : ℤ) → IsSmall z → SFits w32 z
 small_fits z s = search (arith, ints)
@@ -29,3 +29,13 @@ pen-same h i v w p q a b c = cc
 pub font-either : (b : Bool) (p q : Pen) → p.font ≡ q.font → (cond b p q).font ≡ q.font
 font-either true p q e = e
 font-either false p q e = refl
+
+no_difference : (z : ℤ) → z -ℤ z ≡ pos 0
+no_difference z = omega (arith, ints)
+
+-- where the pen stands already nothing moves it
+pub no_moves : (pen : Pen) (h v : ℤ) → h ≡ pen.h → v ≡ pen.v → moves pen h v ≡ []
+no_moves pen h v across down =
+    let M : ℤ → ℤ → List ℕ = λ a b. move 157 a ++ move 143 b in
+    ap (λ a. M (a -ℤ pen.v) (h -ℤ pen.h)) down ∙ ap (λ b. M (pen.v -ℤ pen.v) (b -ℤ pen.h)) across
+    ∙ ap (λ a. M a (pen.h -ℤ pen.h)) (no_difference pen.v) ∙ ap (M (pos 0)) (no_difference pen.h)

@@ -35,8 +35,19 @@ impl Pen {
         }
     }
 
-    /// Moves down, and then to the right.
+    /// Moves down, and then to the right. Mostly the pen stands there already.
     fn push_moves(&self, out: &mut Vec<u8>, h: i32, v: i32) -> Result<(), AllocError>
+        requires left { IsSmall h }
+        requires baseline { IsSmall v }
+        ensures { OnOk result (out.new.items ≡ out.old.items ++ moves (pen_of self.now) h v) }
+    {
+        if h == self.h && v == self.v {
+            return Ok(());
+        }
+        self.push_both_moves(out, h, v)
+    }
+
+    fn push_both_moves(&self, out: &mut Vec<u8>, h: i32, v: i32) -> Result<(), AllocError>
         requires left { IsSmall h }
         requires baseline { IsSmall v }
         ensures { OnOk result (out.new.items ≡ out.old.items ++ moves (pen_of self.now) h v) }
@@ -108,7 +119,7 @@ impl Pen {
         if !is_shown(height, width) {
             return Ok(());
         }
-        self.push_moves(out, h, v)?;
+        self.push_both_moves(out, h, v)?;
         out.push(PUT_RULE)?;
         push_signed(out, height)?;
         push_signed(out, width)?;

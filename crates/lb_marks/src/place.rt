@@ -2,7 +2,7 @@
 ghost use Rattle.std.specs.Prelude.{◌≡◌, ◌+ℤ◌, ◌-ℤ◌, IfOk, IfErr};
 ghost use Rattle.lb_base.specs.declared.fault.Stop.TheVariants.{Memory};
 ghost use Rattle.lb_model_paper.specs.Marks.{baseline_of, spot_along};
-ghost use Rattle.lb_marks.specs.Spots.{spot_of};
+ghost use Rattle.lb_marks.specs.Spots.{baseline_of_char, spot_of};
 
 use lb_base::{Axis, Node, Stop};
 use lb_nodes::sizes::{shift_of, size_of};
@@ -68,6 +68,20 @@ pub fn baseline_of(axis: Axis, spot: Spot, node: &Node) -> Result<Spot, Stop>
             let h = moved(spot.h, i128::from(shift_of(node)))?;
             let v = moved(spot.v, i128::from(size_of(node).height))?;
             Ok(Spot { h, v })
+        }
+    }
+}
+
+/// Where the baseline of a character begins that begins at a spot.
+pub fn baseline_of_char(axis: Axis, spot: Spot, height: i32) -> Result<Spot, Stop>
+    ensures ok { IfOk result (λ item. spot_of item ≡ baseline_of_char axis (spot_of spot) height) }
+    ensures err { IfErr result (λ stop. stop ≡ Memory) }
+{
+    match axis {
+        Axis::Horizontal => Ok(spot),
+        Axis::Vertical => {
+            let v = moved(spot.v, i128::from(height))?;
+            Ok(Spot { h: spot.h, v })
         }
     }
 }

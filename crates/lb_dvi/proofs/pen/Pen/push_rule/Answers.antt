@@ -10,5 +10,5 @@ returns-clause-bytes c =
     let e : c.is_shown.result ≡ is_shown c.args.height c.args.width =
     rw (to_z-of_z w32 c.args.height c.ranges.height, to_z-of_z w32 c.args.width c.ranges.width) at c.is_shown.ensures in
     let shown : is_shown c.args.height c.args.width ≡ true = sym e ∙ told in
-    rw (shown, c.in_ok-push_signed-2.ensures, c.in_ok-push_signed.ensures, c.in_ok-push.ensures.items, c.in_ok-push_moves.ensures, small-read c.args.h c.requires.left, small-read c.args.v c.requires.lower, to_z-of_z w32 c.args.height c.ranges.height, to_z-of_z w32 c.args.width c.ranges.width)
+    rw (shown, c.in_ok-push_signed-2.ensures, c.in_ok-push_signed.ensures, c.in_ok-push.ensures.items, c.in_ok-push_both_moves.ensures, small-read c.args.h c.requires.left, small-read c.args.v c.requires.lower, to_z-of_z w32 c.args.height c.ranges.height, to_z-of_z w32 c.args.width c.ranges.width)
     (simp append_assoc)

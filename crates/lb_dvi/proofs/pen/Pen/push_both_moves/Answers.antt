@@ -1,6 +1,6 @@
 use Rattle.std.proofs.Common.{append_assoc}
 use Rattle.lb_dvi.proofs.Lengths.{difference-read}
-use Rattle.lb_dvi.proofs.pen.Pen.push_moves.Goals as goal
+use Rattle.lb_dvi.proofs.pen.Pen.push_both_moves.Goals as goal
 
 pub returns : goal.returns
 returns c =
