@@ -1,3 +1,5 @@
+pub mod FedLemmas
 pub mod Places
 pub mod StartWords
 pub mod Starts
+pub mod TakenLemmas

@@ -1,5 +1,6 @@
 -- Tokens that are taken, without expansion, until they mean something: arguments, the rests of groups, text that is skipped.
-use Rattle.std.specs.Prelude.{◌+◌, ◌++◌, ℕ, zero, suc, List, [], ◌∷◌, length, nat_lt, if◌then◌else◌}
+use Rattle.std.specs.Prelude.{◌+◌, ◌++◌, ℕ, zero, suc, List, [], ◌∷◌, length, nat_lt, Option, if◌then◌else◌}
+use Rattle.std.specs.Option.{option_map}
 use Rattle.lb_base.specs.declared.fault.Kind.{Kind}
 use Rattle.lb_base.specs.declared.fault.Kind.TheVariants.{DepthLimit, StepLimit}
 use Rattle.lb_base.specs.declared.token.Tok.{Tok}
@@ -11,6 +12,7 @@ use Rattle.lb_model_grammar.specs.Scans.Meant.{Open, Ended, Wrong}
 use Rattle.lb_model.specs.declared.place.Got.{Got}
 use Rattle.lb_model.specs.declared.place.Got.TheVariants.{Tok as GotTok, End as GotEnd, Fault as GotFault}
 use Rattle.lb_model.specs.Configs.{Config, Taking, looks_of_meaning, looks_of_plain, plain, put_all}
+use Rattle.lb_model.specs.Settings.{Notes, noted_all}
 use Rattle.lb_model.specs.Sources.{pending}
 
 -- what was read, or what was wrong
@@ -100,3 +102,13 @@ looks_of_got got = []
 
 abbrev pub looks_with_meaning : Config → List Cell
 looks_with_meaning c = looks_of_plain c ++ looks_of_got (plain c).got
+
+-- ---- What is read, and beside it the notes
+
+pub record Noted (X : Type 0) : Type 0 where
+  pub took : Took X
+  pub notes : Option Notes
+
+-- what is read, and the notes once the cells are told that are looked at for it
+abbrev pub noting : {X : Type 0} → (Config → Took X) → (Config → List Cell) → Config → Option Notes → Noted X
+noting took looks c notes = record { took = took c; notes = option_map (noted_all (looks c)) notes }

@@ -1,0 +1,108 @@
+//! The conditionals that are open.
+ghost use Rattle.std.specs.Prelude.{◌≡◌, ◌∷◌, [], OnErr, OnOk, Option, drop, length};
+ghost use Rattle.std.specs.Option.{option_copied};
+ghost use Rattle.lb_model.specs.Conditionals.{may_end, passed};
+ghost use Rattle.lb_cond.specs.Open.{innermost, replaced};
+
+use lb_base::NoMemory;
+use lb_model::Conditional;
+use lb_model_grammar::Stopper;
+use std::alloc::Global;
+use std::marker::Model;
+
+/// The open conditionals, the innermost first.
+#[derive(Drop)]
+pub struct CondState {
+    inner: Conditional,
+    around: Vec<Conditional>,
+}
+
+impl Model for CondState {
+    ghost use Rattle.std.specs.Prelude.{List, reverse};
+    ghost use Rattle.lb_model.specs.declared.open.Conditional.{Conditional};
+    ghost use Rattle.lb_cond.specs.Open.{conditionals_of};
+
+    ghost Value = { List Conditional };
+
+    ghost view = { λ c. conditionals_of c.inner (reverse c.around.items) };
+}
+
+impl CondState {
+    /// No open conditional. Takes no memory.
+    pub fn new(alloc: Global) -> CondState
+        ensures { result ≡ [] }
+    {
+        CondState {
+            inner: Conditional::Deciding,
+            around: Vec::new(alloc),
+        }
+    }
+
+    /// Opens a conditional, whose condition is read next.
+    pub fn begin(&mut self) -> Result<(), NoMemory>
+        ensures ok { OnOk result (self.new ≡ Conditional.Deciding ∷ self.old) }
+        ensures err { OnErr result (self.new ≡ self.old) }
+    {
+        self.around.push(self.inner)?;
+        self.inner = Conditional::Deciding;
+        Ok(())
+    }
+
+    /// How many are open.
+    pub fn count(&self) -> u64
+        ensures { result ≡ length self.now }
+    {
+        self.around.len() as u64
+    }
+
+    /// The innermost one, if one is open.
+    pub fn innermost(&self) -> Option<Conditional>
+        ensures { result ≡ innermost self.now }
+    {
+        if self.around.is_empty() {
+            return None;
+        }
+        Some(self.inner)
+    }
+
+    /// Another part of the innermost one is read from now on, or it is closed, where its text is skipped to this stop. Takes no memory.
+    pub fn pass(&mut self, stopper: Stopper)
+        ensures { self.new ≡ passed stopper self.old }
+    {
+        match stopper {
+            Stopper::Fi => self.close(),
+            Stopper::Else => self.go_on(Conditional::Otherwise),
+            Stopper::Or => self.go_on(Conditional::Case),
+        }
+    }
+
+    // The innermost one, if one is open, is closed.
+    fn close(&mut self)
+        ensures { self.new ≡ passed Stopper.Fi self.old }
+    {
+        if let Some(around) = self.around.pop() {
+            self.inner = around;
+        }
+    }
+
+    // The innermost one, if one is open, goes on with another part.
+    #[tactic(auto, using(crate::proofs::Opened::replaced_of))]
+    fn go_on(&mut self, part: Conditional)
+        ensures { self.new ≡ replaced part self.old }
+    {
+        self.inner = part;
+    }
+}
+
+/// Whether a part may end so: `\fi` ends each, `\else` the one before it, and `\or` one of the parts of `\ifcase`.
+pub fn may_end(stopper: Stopper, part: Conditional) -> bool
+    ensures { result ≡ may_end stopper part }
+{
+    match (stopper, part) {
+        (_, Conditional::Deciding) => false,
+        (Stopper::Fi, _) => true,
+        (Stopper::Else, Conditional::Then | Conditional::Case) => true,
+        (Stopper::Or, Conditional::Case) => true,
+        _ => false,
+    }
+}
