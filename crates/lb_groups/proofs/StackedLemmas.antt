@@ -203,6 +203,9 @@ tells_in C groups cell f result new old t = record {
   loan = t.loan;
 }
 
+pub value_in : (groups : List Group) (c : Cell) (o n : Option Notes) → n ≡ option_map (noted c) o → stacked_notes groups n ≡ option_map (looked c) (stacked_notes groups o)
+value_in = notes-told
+
 -- saves that stand
 pub standing-opened : {X : Type 0} (kind : GroupKind) (groups : List Group) (k : Kept X) → Standing groups k → Standing (record { kind = kind; saves = 0 } ∷ groups) k
 standing-opened kind groups k h = let e : saves_in groups ≤ length k.saves = h in omega arith

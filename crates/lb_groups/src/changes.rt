@@ -1,10 +1,10 @@
 //! Changes and groups over any cells.
-ghost use Rattle.std.specs.Prelude.{◌≡◌, ◌∷◌, ◌≤◌, true, OnOk, OnErr, length};
+ghost use Rattle.std.specs.Prelude.{◌≡◌, ◌≤◌, true, OnOk, OnErr, length};
 ghost use Rattle.std.specs.Option.{option_map};
 ghost use Rattle.lb_values.specs.Kept.{changed, saved};
 ghost use Rattle.lb_model.specs.Ranges.{fits, is_settable};
 ghost use Rattle.lb_model.specs.Settings.{Setting, noted_change, noted_save};
-ghost use Rattle.lb_model.specs.Stacked.{Standing, assigned, closed, kinds_of, notes_assigned, notes_closed, notes_opened, opened, stacked, stacked_notes, undone_by};
+ghost use Rattle.lb_model.specs.Stacked.{Standing, assigned, closed, kinds_of, notes_assigned, notes_closed, stacked, stacked_notes, undone_by};
 ghost use Rattle.lb_groups.specs.Open.{closed_kinds, innermost, noted_undo_by};
 
 use crate::groups::Groups;
@@ -12,19 +12,6 @@ use lb_base::NoMemory;
 use lb_model::{Cells, GroupKind};
 use lb_values::{Cell, Reach, Value};
 use std::alloc::AllocError;
-
-/// Opens a group.
-pub fn open_group<C: Cells>(cells: &mut C, groups: &mut Groups, kind: GroupKind) -> Result<(), NoMemory>
-    ensures same { cells.new ≡ cells.old }
-    ensures kinds { OnOk result (kinds_of groups.new ≡ kind ∷ kinds_of groups.old) }
-    ensures ok { OnOk result ((p : Setting) → stacked groups.new (C.meaning cells.new p) ≡ opened (stacked groups.old (C.meaning cells.old p))) }
-    ensures standing { OnOk result ((p : Setting) → Standing groups.old (C.meaning cells.old p) → Standing groups.new (C.meaning cells.new p)) }
-    ensures notes { OnOk result (stacked_notes groups.new (C.notes cells.new) ≡ option_map notes_opened (stacked_notes groups.old (C.notes cells.old))) }
-    ensures err { OnErr result (groups.new ≡ groups.old) }
-{
-    groups.open(kind)?;
-    Ok(())
-}
 
 // Saves the cell and sets it.
 fn save_and_set<C: Cells>(cells: &mut C, cell: &Cell, value: Value) -> Result<(), NoMemory>

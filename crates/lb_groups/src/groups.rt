@@ -69,8 +69,8 @@ impl Groups {
         !(self.inner.saves < u64::MAX)
     }
 
-    /// Opens a group.
-    pub(crate) fn open(&mut self, kind: GroupKind) -> Result<(), NoMemory>
+    /// Opens a group, in which no save was made yet.
+    pub fn open(&mut self, kind: GroupKind) -> Result<(), NoMemory>
         ensures ok { OnOk result (self.new ≡ record { kind = kind; saves = 0 } ∷ self.old) }
         ensures err { OnErr result (self.new ≡ self.old) }
     {

@@ -5,5 +5,5 @@ mod changes;
 mod groups;
 pub mod looks;
 
-pub use changes::{assign, close_group, open_group};
+pub use changes::{assign, close_group};
 pub use groups::Groups;

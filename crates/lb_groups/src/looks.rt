@@ -8,7 +8,17 @@ ghost use Rattle.lb_groups.specs.Open.{TellsIn};
 use crate::groups::Groups;
 use lb_base::{Boxed, Bytes, Category, Glue, Name, NameList, NoMemory, TokList};
 use lb_model::{Cells, reads};
-use lb_values::{Cell, CounterList, Form, LabelPair, Meaning, PageStyle, Shared};
+use lb_values::{Cell, CounterList, Form, LabelPair, Meaning, PageStyle, Shared, Value};
+
+/// What a cell tells.
+#[tactic(auto, using(crate::proofs::StackedLemmas::value_in))]
+pub fn value<C: Cells>(cells: &mut C, groups: &Groups, cell: &Cell) -> Result<Value, NoMemory>
+    ensures tells { TellsIn C.Cells groups.now cell.now (λ v. v) result cells.new cells.old }
+{
+    let _ = groups;
+    let value = cells.get(cell)?;
+    Ok(value)
+}
 
 /// The category of a code.
 #[tactic(auto, using(crate::proofs::StackedLemmas::tells_in))]

@@ -1,4 +1,5 @@
 pub mod Arguments
+pub mod Assignments
 pub mod Causes
 pub mod Conditionals
 pub mod Configs

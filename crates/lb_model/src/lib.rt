@@ -2,6 +2,7 @@
 #![tactic(auto)]
 
 pub mod append;
+pub mod arith;
 pub mod cells;
 pub mod expandable;
 pub mod feed;
@@ -17,6 +18,7 @@ pub mod within;
 pub mod world;
 
 pub use append::Append;
+pub use arith::{Arith, Part};
 pub use cells::Cells;
 pub use expandable::{Expandable, TestKind};
 pub use feed::Feed;
