@@ -2,6 +2,8 @@
 #![tactic(auto)]
 
 pub mod end;
+pub mod expansion;
 pub mod laws;
 
 pub use end::End;
+pub use expansion::{Answer, Went};
