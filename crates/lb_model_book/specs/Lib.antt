@@ -4,3 +4,4 @@ pub mod OwnLines
 pub mod PlainForm
 pub mod PlainPages
 pub mod Steps
+pub mod Worked

@@ -4,6 +4,7 @@
 pub mod end;
 pub mod expansion;
 pub mod laws;
+pub mod rows;
 
 pub use end::End;
 pub use expansion::{Answer, Went};
