@@ -43,6 +43,7 @@ impl<'a> Cells for Direct<'a> {
 
     ghost loan = { λ d. d.state.ghost_name };
 
+    #[inline(always)]
     fn get(&mut self, cell: &Cell) -> Result<Value, NoMemory> {
         tell(self.world, cell, self.state.stored(cell))
     }

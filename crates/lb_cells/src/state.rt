@@ -76,6 +76,7 @@ impl State {
     }
 
     /// What is stored for the cell, which may be `Absent`: what is written over the shared map, and else what that has. Takes no memory.
+    #[inline(always)]
     pub fn stored(&self, cell: &Cell) -> Option<&Value>
         ensures { option_copied result ≡ stored_at self.now cell.now }
     {

@@ -12,15 +12,28 @@ use lb_rows::Parameter;
 use lb_values::{Cell, Value};
 
 /// What a cell tells, where `held` is what the state stores for it. Files are not copied.
+#[inline(always)]
 pub fn tell(world: &World, cell: &Cell, held: Option<&Value>) -> Result<Value, NoMemory>
     ensures { IfOk result (λ v. (f : StateOf) → f cell.now ≡ unwrap_or (option_copied held.entry) Absent → look world.now f cell.now ≡ v) }
 {
     match cell {
+        Cell::Cat(_) => category_value(held),
         Cell::Job => Ok(Value::Name(world.main.clone()?)),
         Cell::Prefix => Ok(Value::Name(world.prefix.clone()?)),
         Cell::Steps => Ok(Value::Steps(world.steps)),
         Cell::File(name) => tell_file(world, name),
         Cell::Par(parameter) => tell_parameter(world.moment, *parameter, held),
+        _ => held_value(held),
+    }
+}
+
+// What the state holds for a code, which is nearly always a category, and then copied here.
+#[inline(always)]
+fn category_value(held: Option<&Value>) -> Result<Value, NoMemory>
+    ensures { IfOk result (λ v. unwrap_or (option_copied held.entry) Absent ≡ v) }
+{
+    match held {
+        Some(Value::Category(category)) => Ok(Value::Category(*category)),
         _ => held_value(held),
     }
 }

@@ -46,6 +46,7 @@ impl<V> CellMap<V> {
     }
 
     /// The value of a cell. Takes no memory.
+    #[inline(always)]
     pub fn get(&self, cell: &Cell) -> Option<&V>
         ensures { option_copied result ≡ at self.now cell.now }
     {
@@ -201,6 +202,7 @@ fn make_slot<V: Drop>(slots: &mut Vec<Option<(Cell, V)>>, slot: usize) -> Result
 }
 
 // What is held in a slot.
+#[inline(always)]
 fn held_in<V>(slots: &[Option<(Cell, V)>], slot: usize) -> Option<&V>
     ensures { option_copied result ≡ in_slot slots.now slot }
 {

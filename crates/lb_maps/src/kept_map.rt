@@ -50,6 +50,7 @@ impl<V> KeptMap<V> {
     }
 
     /// What is stored for the cell. Takes no memory.
+    #[inline(always)]
     pub fn get(&self, cell: &Cell) -> Option<&V>
         ensures { option_copied result ≡ at self.now.entries cell.now }
     {

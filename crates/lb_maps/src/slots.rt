@@ -12,6 +12,7 @@ const PARAMETERS: usize = 35;
 const BYTES: usize = 256;
 
 /// The slot of a cell in a table, where it has one.
+#[inline(always)]
 #[tactic(auto, unfolding(crate::specs::Slots::slot_of))]
 pub fn slot_of(cell: &Cell) -> Option<usize>
     ensures { result ≡ slot_of cell.now }
@@ -54,6 +55,7 @@ pub fn key_of_slot(cell: &Cell) -> Option<Cell>
 }
 
 // The slot of a byte in one of the tables behind the parameters.
+#[inline(always)]
 fn byte_slot(table: usize, byte: u8) -> usize
     requires { table < 10 }
     ensures { result ≡ 35 + table * 256 + byte }

@@ -16,6 +16,7 @@ use std::alloc::Global;
 
 /// The control sequence of an escape behind which the line goes on at a place. The name is copied from the line, or where two marks stand
 /// for a letter of it, from a buffer.
+#[inline(never)]
 pub fn control_sequence<C: Cells>(
     alloc: Global,
     line: &[u8],
@@ -145,6 +146,7 @@ fn after_symbol(category: Category) -> ReaderState
     }
 }
 
+#[inline(always)]
 fn is_letter(category: Category) -> bool
     ensures { result ≡ is_letter category }
 {

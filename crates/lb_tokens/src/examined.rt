@@ -18,6 +18,7 @@ pub struct Examined {
 }
 
 /// The character that stands at a place of a line: where it and what follows are two marks, it is the code for which they stand.
+#[inline(always)]
 pub fn examine<C: Cells>(line: &[u8], at: usize, cats: &mut C) -> Result<Examined, NoMemory>
     requires { at < length line.now }
     ensures told { Told C.Cells cats.new cats.old }
@@ -48,6 +49,7 @@ pub fn examine<C: Cells>(line: &[u8], at: usize, cats: &mut C) -> Result<Examine
 }
 
 // The code for which a character and the text behind it stand, if they are two marks, and how many bytes of that text are taken.
+#[inline(always)]
 fn replacement(category: Category, code: u8, text: &[u8]) -> Option<(u8, usize)>
     ensures is { result ≡ replacement category code text.now }
     ensures width { IfSome result (λ r. 0 < r.1) }
@@ -60,6 +62,7 @@ fn replacement(category: Category, code: u8, text: &[u8]) -> Option<(u8, usize)>
     }
 }
 
+#[cold]
 fn two_marks(mark: u8, text: &[u8]) -> Option<(u8, usize)>
     ensures is { result ≡ two_marks mark text.now }
     ensures width { IfSome result (λ r. 0 < r.1) }
@@ -74,6 +77,7 @@ fn two_marks(mark: u8, text: &[u8]) -> Option<(u8, usize)>
     }
 }
 
+#[inline(always)]
 fn is_superscript(category: Category) -> bool
     ensures { result ≡ is_superscript category }
 {

@@ -58,6 +58,7 @@ pub fn next<C: Cells>(alloc: Global, reader: &mut LineReader, cats: &mut C) -> R
 }
 
 // What is read of a line from a place on.
+#[inline(always)]
 fn step<C: Cells>(
     alloc: Global,
     line: &[u8],
@@ -95,6 +96,7 @@ fn step<C: Cells>(
 }
 
 // What is read at a character that is not skipped and begins no control sequence.
+#[inline(always)]
 fn step_at(alloc: Global, line: &[u8], state: ReaderState, next: Examined) -> Result<Step, Stop>
     requires plain { is_escape next.category ≡ false }
     requires within { next.after ≤ length line.now }
@@ -128,6 +130,7 @@ fn step_at(alloc: Global, line: &[u8], state: ReaderState, next: Examined) -> Re
 }
 
 // What is read where the rest of the line is dropped.
+#[inline(always)]
 fn last_step(read: Read, line: &[u8], state: ReaderState) -> Step
     ensures { result ≡ record { read = read; at = length line.now; state = state } }
 {
@@ -150,6 +153,7 @@ fn end_of_line(alloc: Global, state: ReaderState) -> Result<Read, NoMemory>
 }
 
 // Ignored characters are skipped, and spaces at the beginning of a line and behind other spaces.
+#[inline(always)]
 fn is_skipped(state: ReaderState, category: Category) -> bool
     ensures { result ≡ is_skipped state category }
 {
@@ -160,6 +164,7 @@ fn is_skipped(state: ReaderState, category: Category) -> bool
     }
 }
 
+#[inline(always)]
 fn is_escape(category: Category) -> bool
     ensures { result ≡ is_escape category }
 {

@@ -1,9 +1,8 @@
 use Rattle.std.proofs.Common.{◌≡◌, Bool, true, false, cond, None, Some, map, refl, ap, ◌∷◌, ◌∙◌}
 use Rattle.lb_values.specs.Cells.{cell_eq}
-use Rattle.lb_values.proofs.SameCells.{cell_eq-refl, cell_eq-true}
-use Rattle.lb_values.specs.Kept.{Kept, put, void_save, changed, saved, undone}
+use Rattle.lb_values.proofs.SameCells.{cell_eq-refl}
+use Rattle.lb_values.specs.Kept.{put, void_save, undone}
 use Rattle.lb_values.specs.declared.cell.Cell.{Cell}
-use Rattle.lb_values.specs.declared.reach.Reach.TheVariants.{Local, Global}
 use Rattle.lb_maps.proofs.Marks.{put-same}
 use Rattle.lb_maps.proofs.laws.undoing.Goals as goal
 

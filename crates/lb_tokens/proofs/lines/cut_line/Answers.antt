@@ -1,4 +1,4 @@
-use Rattle.std.proofs.Common.{◌≡◌, ◌+◌, ◌≤◌, ◌∙◌, ◌∷◌, take, drop, length, sym, ap, arith, take_all}
+use Rattle.std.proofs.Common.{◌≤◌, ◌∙◌, ◌∷◌, take, drop, length, sym, ap, arith, take_all}
 use Rattle.std.proofs.lemmas.List.{take_rest, drop_all, drop-drop}
 use Rattle.lb_model.specs.Tokens.{cut_lines}
 use Rattle.lb_tokens.specs.Parts.{is_at_end, after_end}
