@@ -12,6 +12,7 @@ use lb_base::{Boxed, Bytes, Category, Glue, Name, NameList, NoMemory, TokList};
 use lb_values::{Cell, CounterList, Form, LabelPair, Meaning, PageStyle, Shared, Value};
 
 /// The category of a code.
+#[inline(always)]
 pub fn category<C: Cells>(cells: &mut C, code: u8) -> Result<Category, NoMemory>
     ensures tells { Tells C.Cells (cells_of.Cat code) category_of result cells.new cells.old }
 {
