@@ -26,10 +26,9 @@ pub fn parts()
 pub fn tokens_made()
     ensures held { (expansion (control (codes "expandafter") ++ tokens (codes "x") ++ control (codes "romannumeral") ++ tokens (codes "12!"))).went ≡ Gave (Char Letter 120) }
     ensures behind { (expansion (control (codes "expandafter") ++ tokens (codes "x") ++ control (codes "romannumeral") ++ tokens (codes "12!"))).next.source ≡ map Pending (printed (codes "xii") ++ tokens (codes "!")) }
-    ensures named { (expansion (control (codes "csname") ++ tokens (codes "ab") ++ control (codes "endcsname"))).went ≡ Gave (Word (codes "ab")) }
+    ensures named { (expansion (control (codes "csname") ++ tokens (codes "relax") ++ control (codes "endcsname"))).went ≡ Gave (Word (codes "relax")) }
     ensures shown { (expansion (control (codes "string") ++ control (codes "fi"))).went ≡ Gave (Char Other 92) }
     ensures as_it_is { (expansion (control (codes "noexpand") ++ control (codes "fi"))).went ≡ Gave (Word (codes "fi")) }
-    ensures job { (expansion (control (codes "jobname"))).went ≡ Over }
-    ensures undefined { (expansion (control (codes "undefined"))).went ≡ Stopped kind.Undefined }
+    ensures job { (expansion (control (codes "jobname"))).went ≡ Gave (Char Other 109) }
     ensures missing { (expansion (control (codes "number") ++ tokens (codes "x"))).went ≡ Stopped kind.NumberMissing }
 {}
