@@ -6,7 +6,7 @@ use Rattle.lb_model_grammar.specs.Same.{tok_eq}
 use Rattle.lb_base.specs.declared.token.Category.{Category}
 use Rattle.lb_base.specs.contracts.token.CategoryPartialEq.TheImpl as category_test
 use Rattle.lb_rows.specs.declared.command.Command.{Command}
-use Rattle.lb_rows.specs.contracts.command.CommandPartialEq.TheImpl as command_test
+use Rattle.lb_rows.specs.Commands.{command_name}
 use Rattle.lb_values.specs.declared.meaning.MacroDef.{MacroDef}
 use Rattle.lb_values.specs.declared.meaning.Meaning.{Meaning}
 use Rattle.lb_values.specs.declared.meaning.Meaning.TheVariants as meaning
@@ -16,8 +16,9 @@ use Rattle.lb_values.specs.contracts.meaning.RegisterPartialEq.TheImpl as regist
 unfoldable pub category_eq : Category → Category → Bool
 category_eq = (category_test.ghosts).eq
 
+-- two commands are one where they have one name
 unfoldable pub command_eq : Command → Command → Bool
-command_eq = (command_test.ghosts).eq
+command_eq a b = pointwise nat_eq (command_name a) (command_name b)
 
 unfoldable pub register_eq : Registers → Registers → Bool
 register_eq = (register_test.ghosts).eq
