@@ -6,3 +6,4 @@ pub mod Printed
 pub mod Same
 pub mod Scans
 pub mod Words
+pub mod Worked

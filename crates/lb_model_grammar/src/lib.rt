@@ -4,6 +4,7 @@
 pub mod class;
 pub mod condition;
 pub mod given;
+pub mod rows;
 
 pub use class::{Brace, Class};
 pub use condition::{Branch, CondKind, Mark, Rel, Sought, Stopper};
