@@ -129,3 +129,107 @@ pub fn keywords()
     ensures end { meant (scan_kind.Keyword (codes "by")) (text (codes "b") ++ given.End ∷ []) ≡ Ended (Found false) (text (codes "b") ++ given.End ∷ []) }
     ensures another_letter { meant (scan_kind.Keyword (codes "by")) (text (codes " b")) ≡ Open want.Expanded }
 {}
+
+/// Arguments of macros: a delimiter that overlaps itself, braces that go and braces that stay, paragraphs, and delimiters of other kinds.
+#[tactic(auto, unfolding(crate::specs::Same::tok_eq))]
+pub fn delimited_arguments()
+    ensures overlaps { argument false (tokens (codes "aab")) (text (codes "aaabc")) ≡ Ended (tokens (codes "a")) (text (codes "c")) }
+    ensures group_loses_braces { argument false (tokens (codes ".")) (text (codes "{ab}.c")) ≡ Ended (tokens (codes "ab")) (text (codes "c")) }
+    ensures two_groups_keep { argument false (tokens (codes ".")) (text (codes "{a}{b}.")) ≡ Ended (tokens (codes "{a}{b}")) [] }
+    ensures inner_braces_stay { argument false (tokens (codes ".")) (text (codes "{a{b}}.")) ≡ Ended (tokens (codes "a{b}")) [] }
+    ensures delimiter_in_a_group { argument false (tokens (codes "ab")) (text (codes "x{ab}aab")) ≡ Ended (tokens (codes "x{ab}a")) [] }
+    ensures brace_delimits { argument false (tokens (codes "{")) (text (codes "ab{c}")) ≡ Ended (tokens (codes "ab")) (text (codes "c}")) }
+    ensures nothing { argument false (tokens (codes ".")) (text (codes ".c")) ≡ Ended [] (text (codes "c")) }
+    ensures space_in_delimiter { argument false (tokens (codes ", ")) (text (codes " x,y, z")) ≡ Ended (tokens (codes " x,y")) (text (codes "z")) }
+    ensures category_counts { argument false (Char category.Letter 46 ∷ []) (text (codes "a.") ++ given.Tok (Char category.Letter 46) ∷ []) ≡ Ended (tokens (codes "a.")) [] }
+    ensures paragraph_delimits { argument false (Word (codes "par") ∷ []) (text (codes "ab") ++ control (codes "par")) ≡ Ended (tokens (codes "ab")) [] }
+    ensures long_takes_paragraphs { argument true (tokens (codes ".")) (control (codes "par") ++ text (codes ".")) ≡ Ended (Word (codes "par") ∷ []) [] }
+    ensures short_takes_none { argument false (tokens (codes ".")) (text (codes "{a") ++ control (codes "par") ++ text (codes "}.")) ≡ Wrong Runaway }
+    ensures extra_brace { argument false (tokens (codes ".")) (text (codes "a}.")) ≡ Wrong UseMismatch }
+    ensures end { argument false (tokens (codes ".")) (text (codes "x") ++ given.End ∷ []) ≡ Wrong Runaway }
+    ensures end_in_delimiter { argument false (tokens (codes "aab")) (text (codes "xaa") ++ given.End ∷ []) ≡ Wrong Runaway }
+    ensures goes_on { argument false (tokens (codes "aab")) (text (codes "xaa")) ≡ Open want.Plain }
+{}
+
+/// Arguments without delimiters, in brackets, what stands before them, and bodies with them.
+#[tactic(auto, unfolding(crate::specs::Same::tok_eq))]
+pub fn undelimited_arguments()
+    ensures behind_spaces { undelimited false (text (codes "  xy")) ≡ Ended (tokens (codes "x")) (text (codes "y")) }
+    ensures group { argument false [] (text (codes " {a{b} }c")) ≡ Ended (tokens (codes "a{b} ")) (text (codes "c")) }
+    ensures behind_a_delimited_one { argument false [] (text (codes "c")) ≡ Ended (tokens (codes "c")) [] }
+    ensures extra_brace { undelimited false (text (codes " }")) ≡ Wrong UseMismatch }
+    ensures paragraph { undelimited false (control (codes "par")) ≡ Wrong Runaway }
+    ensures long_paragraph { undelimited true (control (codes "par")) ≡ Ended (Word (codes "par") ∷ []) [] }
+    ensures end_in_a_group { undelimited true (text (codes "{a{b}") ++ given.End ∷ []) ≡ Wrong Runaway }
+    ensures in_brackets { optional true (tokens (codes "d")) (text (codes "  [{a]}]b")) ≡ Ended (tokens (codes "a]")) (text (codes "b")) }
+    ensures no_brackets { optional true (tokens (codes "d")) (text (codes " b")) ≡ Ended (tokens (codes "d")) (text (codes "b")) }
+    ensures parts { parts_of (tokens (codes "a") ++ Param 1 ∷ tokens (codes ".") ++ Param 2 ∷ []) ≡ (tokens (codes "a"), tokens (codes ".") ∷ [] ∷ []) }
+    ensures front { front (tokens (codes "a ")) (text (codes "a b")) ≡ Ended [] (text (codes "b")) }
+    ensures no_front { front (tokens (codes "a ")) (text (codes "ab")) ≡ Wrong UseMismatch }
+    ensures body { substituted (tokens (codes "xy") ∷ [] ∷ []) (Param 1 ∷ tokens (codes "-") ++ Param 2 ∷ Param 1 ∷ []) ≡ tokens (codes "xy-xy") }
+{}
+
+/// What tests choose.
+pub fn tests()
+    ensures less { chosen (IfNum Less) (negsuc 4) (negsuc 3) ≡ branch.Then }
+    ensures not_less { chosen (IfNum Less) (pos 2) (pos 2) ≡ branch.Otherwise }
+    ensures equal { chosen (IfDim Equal) (pos 2) (pos 2) ≡ branch.Then }
+    ensures greater { chosen (IfDim Greater) (pos 0) (negsuc 0) ≡ branch.Then }
+    ensures same_code { chosen If (pos 97) (pos 98) ≡ branch.Otherwise }
+    ensures odd { chosen IfOdd (negsuc 2) (pos 0) ≡ branch.Then }
+    ensures even { chosen IfOdd (negsuc 3) (pos 0) ≡ branch.Otherwise }
+    ensures case { chosen IfCase (negsuc 0) (pos 0) ≡ branch.Part (negsuc 0) }
+{}
+
+/// Where skipped text comes to a stop, conditionals in it being passed over.
+pub fn skipped()
+    ensures next_part { stop mark_of 0 sought.Any (text (codes "a") ++ control (codes "iftrue") ++ control (codes "else") ++ control (codes "fi") ++ control (codes "else") ++ text (codes "e")) ≡ Ended stopper.Else (text (codes "e")) }
+    ensures second_or { stop mark_of 0 (sought.Nth 2) (control (codes "or") ++ text (codes "b") ++ control (codes "or") ++ text (codes "c")) ≡ Ended stopper.Or (text (codes "c")) }
+    ensures inner_or { stop mark_of 0 (sought.Nth 1) (control (codes "iftrue") ++ control (codes "or") ++ control (codes "fi") ++ control (codes "or") ++ text (codes "c")) ≡ Ended stopper.Or (text (codes "c")) }
+    ensures else_before_or { stop mark_of 0 (sought.Nth 2) (control (codes "or") ++ control (codes "else") ++ text (codes "e")) ≡ Ended stopper.Else (text (codes "e")) }
+    ensures no_part { stop mark_of 0 (sought.Nth 0) (control (codes "or") ++ control (codes "or") ++ control (codes "fi")) ≡ Ended stopper.Fi [] }
+    ensures end_of_all { stop mark_of 0 sought.End (control (codes "or") ++ control (codes "else") ++ control (codes "fi") ++ text (codes "x")) ≡ Ended stopper.Fi (text (codes "x")) }
+    ensures from_inside { stop mark_of 1 sought.Any (control (codes "else") ++ control (codes "fi") ++ control (codes "fi")) ≡ Ended stopper.Fi [] }
+    ensures open { stop mark_of 0 sought.Any (control (codes "iftrue") ++ control (codes "fi") ++ given.End ∷ []) ≡ Wrong IfOpen }
+    ensures goes_on { stop mark_of 0 sought.End (control (codes "or")) ≡ Open want.Plain }
+{}
+
+/// Words in braces and the names of files.
+pub fn words()
+    ensures braces { word 0 [] (text (codes "a {c}d}e")) ≡ Ended (codes "a {c}d") (text (codes "e")) }
+    ensures control_sequence { word 0 [] (text (codes "a") ++ control (codes "b")) ≡ Wrong TokenMisplaced }
+    ensures active_character { word 0 [] (given.Tok (Active 126) ∷ []) ≡ Wrong TokenMisplaced }
+    ensures end { word 0 [] (text (codes "a") ++ given.End ∷ []) ≡ Wrong Runaway }
+    ensures file { file_name [] (text (codes "a.b c")) ≡ Ended (codes "a.b") (text (codes "c")) }
+    ensures file_before_control { file_name [] (text (codes "ab") ++ control (codes "c")) ≡ Ended (codes "ab") (control (codes "c")) }
+    ensures file_at_the_end { file_name [] (text (codes "ab") ++ given.End ∷ []) ≡ Ended (codes "ab") (given.End ∷ []) }
+    ensures no_dot { with_ending (codes "ab") ≡ codes "ab.tex" }
+    ensures dot { with_ending (codes "a/b.c") ≡ codes "a/b.c" }
+    ensures dot_in_a_folder { with_ending (codes "a.b/c") ≡ codes "a.b/c.tex" }
+    ensures dot_first { with_ending (codes ".c") ≡ codes ".c" }
+{}
+
+/// What numbers and tokens print as.
+pub fn printing()
+    ensures nineteen_ninety_four { roman 1994 ≡ codes "mcmxciv" }
+    ensures four { roman 4 ≡ codes "iv" }
+    ensures none { roman 0 ≡ [] }
+    ensures all_letters { roman 3888 ≡ codes "mmmdccclxxxviii" }
+    ensures upper_case { roman_form raised (pos 49) ≡ Some (codes "XLIX") }
+    ensures below_none { roman_form raised (negsuc 8) ≡ Some [] }
+    ensures too_large { roman_form raised (pos 100001) ≡ None }
+    ensures letter { alph_form 96 (pos 26) ≡ Some (codes "z") }
+    ensures no_letter { alph_form 96 (pos 27) ≡ None }
+    ensures letter_of_none { alph_form 64 (pos 0) ≡ Some [] }
+    ensures categories { printed (codes "a 1") ≡ Char category.Other 97 ∷ Char category.Space 32 ∷ Char category.Other 49 ∷ [] }
+    ensures escape { characters_of (Word (codes "ab")) ≡ codes "\\ab" }
+    ensures parameter { characters_of (Param 3) ≡ codes "#3" }
+{}
+
+/// What dimensions and glue print as.
+pub fn printed_quantities()
+    ensures tenth { quantity_text (quantity.Dimen (pos 6554)) ≡ Some (codes "0.1pt") }
+    ensures glue { quantity_text (quantity.Skip (glue_of (negsuc 98303) (pos 65536) Fil (pos 32768) Finite)) ≡ Some (codes "-1.5pt plus 1.0fil minus 0.5pt") }
+    ensures plain_glue { quantity_text (quantity.Skip (glue_of (pos 65536) (pos 0) Fil (pos 0) Finite)) ≡ Some (codes "1.0pt") }
+    ensures nothing { quantity_text quantity.NotOne ≡ None }
+{}
