@@ -1,9 +1,11 @@
 pub mod Arguments
 pub mod Conditionals
 pub mod Dimensions
+pub mod NumberGrammar
 pub mod Numbers
 pub mod Printed
 pub mod Same
 pub mod Scans
 pub mod Words
 pub mod Worked
+pub mod Written

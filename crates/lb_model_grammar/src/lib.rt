@@ -4,6 +4,7 @@
 pub mod class;
 pub mod condition;
 pub mod given;
+pub mod laws;
 pub mod rows;
 
 pub use class::{Brace, Class};

@@ -1,0 +1,2 @@
+pub mod NumberReading
+pub mod ReadingSteps

@@ -1,0 +1,113 @@
+-- Readings by a grammar, one token at a time.
+use Rattle.std.proofs.Common.{◌≡◌, ◌∙◌, ◌++◌, ◌<◌, ◌≤◌, List, [], ◌∷◌, length, refl, ap, sym, subst, arith}
+use Rattle.lb_base.specs.declared.fault.Kind.{Kind}
+use Rattle.lb_model_grammar.specs.declared.given.Given.{Given}
+use Rattle.lb_model_grammar.specs.declared.given.Want.{Want}
+use Rattle.lb_model_grammar.specs.Scans.{Meant}
+use Rattle.lb_model_grammar.specs.Scans.Meant.{Open, Ended, Wrong}
+use Rattle.lb_model_grammar.specs.Written.{Answers, GoesOn, IsRead, IsTooLarge, NoneBegins, Reads, ReadsOr, Worth}
+use Rattle.lb_model_grammar.specs.Written.ReadsOr.{none, reads}
+use Rattle.lb_model_grammar.specs.Written.Worth.{TooLarge, Value}
+
+-- behind this the one grammar goes on as the other
+pub record Step {X : Type 0} (G H : List Given → Worth X → Type 0) (g : Given) : Type 0 where
+  pub into : (all : List Given) (w : Worth X) → H all w → G (g ∷ all) w
+  pub onto : (all : List Given) (w : Worth X) → G (g ∷ all) w → H all w
+
+no-longer : {X : Type 0} {G H : List Given → Worth X → Type 0} {g : Given} (s : Step G H g) (given read : List Given)
+    → ((more all behind : List Given) (w : Worth X) → given ++ more ≡ all ++ behind → H all w → length all ≤ length read)
+    → (more all behind : List Given) (w : Worth X) → g ∷ given ++ more ≡ all ++ behind → G all w → length all ≤ length (g ∷ read)
+no-longer s given read longest more [] behind w e is = omega arith
+no-longer {X} {G} {H} {g} s given read longest more (h ∷ all) behind w e is =
+    let head : h ≡ g = cc in
+    let tail : given ++ more ≡ all ++ behind = cc in
+    let less = longest more all behind w tail (s.onto all w (subst (λ (k : Given). G (k ∷ all) w) head is)) in
+    omega (arith, less)
+
+pub read-behind : {X : Type 0} {G H : List Given → Worth X → Type 0} {g : Given} → Step G H g → (given : List Given) (w : Worth X) (rest : List Given)
+    → IsRead H given w rest → IsRead G (g ∷ given) w rest
+read-behind {g = g} s given w rest r =
+    record { read = g ∷ r.read; parts = ap (λ l. g ∷ l) r.parts; is = s.into r.read w r.is; longest = no-longer s given r.read r.longest }
+
+pub reads-behind : {X : Type 0} {G H : List Given → Worth X → Type 0} {g : Given} → Step G H g → (given : List Given) (m : Meant X)
+    → Reads H given m → Reads G (g ∷ given) m
+reads-behind s given (Open want) r =
+    record { next = r.next; answers = r.answers; more = r.more; worth = r.worth; is = s.into (given ++ r.next ∷ r.more) r.worth r.is }
+reads-behind s given (Ended x rest) r = read-behind s given (Value x) rest r
+reads-behind s given (Wrong kind) r = record { rest = r.rest; is = read-behind s given (TooLarge kind) r.rest r.is }
+
+pub none-behind : {X : Type 0} {G H : List Given → Worth X → Type 0} {g : Given} → Step G H g → ((w : Worth X) → G [] w → ⊥) → (given : List Given)
+    → NoneBegins H given → NoneBegins G (g ∷ given)
+none-behind s empty given n more [] behind w e is = empty w is
+none-behind {G = G} {g = g} s empty given n more (h ∷ all) behind w e is =
+    let head : h ≡ g = cc in
+    let tail : given ++ more ≡ all ++ behind = cc in
+    n more all behind w tail (s.onto all w (subst (λ (k : Given). G (k ∷ all) w) head is))
+
+pub reads-or-behind : {X : Type 0} {F : Meant X → Type 0} {G H : List Given → Worth X → Type 0} {g : Given} → Step G H g
+    → ((w : Worth X) → G [] w → ⊥) → (given : List Given) (m : Meant X) → ReadsOr F H given m → ReadsOr F G (g ∷ given) m
+reads-or-behind s empty given m (reads r) = reads (reads-behind s given m r)
+reads-or-behind s empty given m (none f n) = none f (none-behind s empty given n)
+
+-- ---- Ends
+
+-- what is meant by this much and nothing more
+abbrev pub outcome : {X : Type 0} → Worth X → List Given → Meant X
+outcome (Value x) rest = Ended x rest
+outcome (TooLarge kind) rest = Wrong kind
+
+of-outcome : {X : Type 0} {G : List Given → Worth X → Type 0} (given rest : List Given) (w : Worth X) → IsRead G given w rest → Reads G given (outcome w rest)
+of-outcome given rest (Value x) r = r
+of-outcome given rest (TooLarge kind) r = record { rest = rest; is = r }
+
+-- the grammar has nothing more behind this
+pub ends-with : {X : Type 0} (G : List Given → Worth X → Type 0) (g : Given) (given : List Given) (w : Worth X) → G (g ∷ []) w
+    → ((all : List Given) (v : Worth X) → G (g ∷ all) v → all ≡ []) → Reads G (g ∷ given) (outcome w given)
+ends-with {X} G g given w is only = of-outcome (g ∷ given) given w (record { read = g ∷ []; parts = refl; is = is; longest = longest }) where
+  longest : (more all behind : List Given) (v : Worth X) → g ∷ given ++ more ≡ all ++ behind → G all v → length all ≤ 1
+  longest more [] behind v e i = omega arith
+  longest more (h ∷ all) behind v e i =
+      let head : h ≡ g = cc in
+      let n : all ≡ [] = only all v (subst (λ (k : Given). G (k ∷ all) v) head i) in
+      let l : length all ≡ 0 = ap length n in
+      omega (arith, l)
+
+-- the grammar has nothing that begins with this, and ends before it
+pub ends-before : {X : Type 0} (G : List Given → Worth X → Type 0) (g : Given) (given : List Given) (w : Worth X) → G [] w
+    → ((all : List Given) (v : Worth X) → G (g ∷ all) v → ⊥) → Reads G (g ∷ given) (outcome w (g ∷ given))
+ends-before {X} G g given w is not_this = of-outcome (g ∷ given) (g ∷ given) w (record { read = []; parts = refl; is = is; longest = longest }) where
+  longest : (more all behind : List Given) (v : Worth X) → g ∷ given ++ more ≡ all ++ behind → G all v → length all ≤ 0
+  longest more [] behind v e i = omega arith
+  longest more (h ∷ all) behind v e i =
+      let head : h ≡ g = cc in
+      absurd (not_this all v (subst (λ (k : Given). G (k ∷ all) v) head i))
+
+-- the grammar has nothing that begins with this
+pub nothing-begins : {X : Type 0} (G : List Given → Worth X → Type 0) (g : Given) (given : List Given) → ((w : Worth X) → G [] w → ⊥)
+    → ((all : List Given) (v : Worth X) → G (g ∷ all) v → ⊥) → NoneBegins G (g ∷ given)
+nothing-begins G g given empty not_this more [] behind w e is = empty w is
+nothing-begins G g given empty not_this more (h ∷ all) behind w e is =
+    let head : h ≡ g = cc in
+    not_this all w (subst (λ (k : Given). G (k ∷ all) w) head is)
+
+-- ---- One grammar for another, of lists that begin with this
+
+as-read : {X : Type 0} (G H : List Given → Worth X → Type 0) (g : Given) → ((all : List Given) (w : Worth X) → H all w → G all w)
+    → ((all : List Given) (w : Worth X) → G (g ∷ all) w → H (g ∷ all) w) → (given : List Given) (w : Worth X) (rest : List Given)
+    → IsRead H (g ∷ given) w rest → IsRead G (g ∷ given) w rest
+as-read {X} G H g into onto given w rest r = record { read = r.read; parts = r.parts; is = into r.read w r.is; longest = longest } where
+  longest : (more all behind : List Given) (v : Worth X) → g ∷ given ++ more ≡ all ++ behind → G all v → length all ≤ length r.read
+  longest more [] behind v e i = omega arith
+  longest more (h ∷ all) behind v e i =
+      let head : h ≡ g = cc in
+      let is : H (h ∷ all) v =
+          subst (λ (k : Given). H (k ∷ all) v) (sym head) (onto all v (subst (λ (k : Given). G (k ∷ all) v) head i)) in
+      r.longest more (h ∷ all) behind v e is
+
+pub reads-as : {X : Type 0} (G H : List Given → Worth X → Type 0) (g : Given) → ((all : List Given) (w : Worth X) → H all w → G all w)
+    → ((all : List Given) (w : Worth X) → G (g ∷ all) w → H (g ∷ all) w) → (given : List Given) (m : Meant X)
+    → Reads H (g ∷ given) m → Reads G (g ∷ given) m
+reads-as G H g into onto given (Open want) r =
+    record { next = r.next; answers = r.answers; more = r.more; worth = r.worth; is = into (g ∷ given ++ r.next ∷ r.more) r.worth r.is }
+reads-as G H g into onto given (Ended x rest) r = as-read G H g into onto given (Value x) rest r
+reads-as G H g into onto given (Wrong kind) r = record { rest = r.rest; is = as-read G H g into onto given (TooLarge kind) r.rest r.is }
