@@ -1,2 +1,3 @@
 pub mod NumberReading
 pub mod ReadingSteps
+pub mod WordReading

@@ -133,7 +133,7 @@ digits-at base K done grows no_digit v w a t given ih here (Some d) e =
     reads-behind (behind-digit base K no_digit v d t e) given (digits base (grown base w d) done given)
       (ih (base * v + d) (grown base w d) (grown-alike base v w d grows a))
 digits-at base K done grows no_digit v w a t given ih here None e =
-    reads-as (Digits base K v) (K v) (AToken t) (λ all x k. last k) (no-digit-behind base K v t e) given (done w (AToken t ∷ given)) here
+    reads-as (record { empty = λ x k. last k; into = λ all x k. last k; onto = no-digit-behind base K v t e }) given (done w (AToken t ∷ given)) here
 
 pub digits-reads : {X : Type 0} (base : ℕ) (K : ℕ → List Given → Worth X → Type 0) (done : ℕ → List Given → Meant X)
     → ((x : ℕ) → x ≤ base * x)
@@ -146,10 +146,10 @@ digits-reads base K done grows no_digit goes_on behind v w a (AToken t ∷ given
     digits-at base K done grows no_digit v w a t given (λ x y b. digits-reads base K done grows no_digit goes_on behind x y b given)
       (behind v w a (AToken t) given) (digit_of base t) refl
 digits-reads base K done grows no_digit goes_on behind v w a (AQuantity q ∷ given) =
-    reads-as (Digits base K v) (K v) (AQuantity q) (λ all x k. last k) (λ all x r. elim r [ last k ↦ k ]) given (done w (AQuantity q ∷ given))
+    reads-as (record { empty = λ x k. last k; into = λ all x k. last k; onto = λ all x r. elim r [ last k ↦ k ] }) given (done w (AQuantity q ∷ given))
       (behind v w a (AQuantity q) given)
 digits-reads base K done grows no_digit goes_on behind v w a (End ∷ given) =
-    reads-as (Digits base K v) (K v) End (λ all x k. last k) (λ all x r. elim r [ last k ↦ k ]) given (done w (End ∷ given)) (behind v w a End given)
+    reads-as (record { empty = λ x k. last k; into = λ all x k. last k; onto = λ all x r. elim r [ last k ↦ k ] }) given (done w (End ∷ given)) (behind v w a End given)
 
 closing-no-digit : (base : ℕ) (n : Bool) (v d : ℕ) (t : Tok) (all : List Given) (w : Worth Scanned) → digit_of base t ≡ Some d → Closing n v (AToken t ∷ all) w → ⊥
 closing-no-digit base n v d t all w e (space s) = space-no-digit base d t s e

@@ -92,22 +92,69 @@ nothing-begins G g given empty not_this more (h ∷ all) behind w e is =
 
 -- ---- One grammar for another, of lists that begin with this
 
-as-read : {X : Type 0} (G H : List Given → Worth X → Type 0) (g : Given) → ((all : List Given) (w : Worth X) → H all w → G all w)
-    → ((all : List Given) (w : Worth X) → G (g ∷ all) w → H (g ∷ all) w) → (given : List Given) (w : Worth X) (rest : List Given)
+-- what the one has the other has too, and of those that begin with this it has no more
+pub record Same {X : Type 0} (G H : List Given → Worth X → Type 0) (g : Given) : Type 0 where
+  pub empty : (w : Worth X) → H [] w → G [] w
+  pub into : (all : List Given) (w : Worth X) → H (g ∷ all) w → G (g ∷ all) w
+  pub onto : (all : List Given) (w : Worth X) → G (g ∷ all) w → H (g ∷ all) w
+
+same-read : {X : Type 0} {G H : List Given → Worth X → Type 0} {g : Given} → Same G H g → (given read rest : List Given) (w : Worth X)
+    → g ∷ given ≡ read ++ rest → H read w → G read w
+same-read s given [] rest w e is = s.empty w is
+same-read {G = G} {H = H} {g = g} s given (h ∷ read) rest w e is =
+    let head : h ≡ g = cc in
+    subst (λ (k : Given). G (k ∷ read) w) (sym head) (s.into read w (subst (λ (k : Given). H (k ∷ read) w) head is))
+
+as-read : {X : Type 0} {G H : List Given → Worth X → Type 0} {g : Given} → Same G H g → (given : List Given) (w : Worth X) (rest : List Given)
     → IsRead H (g ∷ given) w rest → IsRead G (g ∷ given) w rest
-as-read {X} G H g into onto given w rest r = record { read = r.read; parts = r.parts; is = into r.read w r.is; longest = longest } where
+as-read {X} {G} {H} {g} s given w rest r =
+    record { read = r.read; parts = r.parts; is = same-read s given r.read rest w r.parts r.is; longest = longest }
+    where
   longest : (more all behind : List Given) (v : Worth X) → g ∷ given ++ more ≡ all ++ behind → G all v → length all ≤ length r.read
   longest more [] behind v e i = omega arith
   longest more (h ∷ all) behind v e i =
       let head : h ≡ g = cc in
       let is : H (h ∷ all) v =
-          subst (λ (k : Given). H (k ∷ all) v) (sym head) (onto all v (subst (λ (k : Given). G (k ∷ all) v) head i)) in
+          subst (λ (k : Given). H (k ∷ all) v) (sym head) (s.onto all v (subst (λ (k : Given). G (k ∷ all) v) head i)) in
       r.longest more (h ∷ all) behind v e is
 
-pub reads-as : {X : Type 0} (G H : List Given → Worth X → Type 0) (g : Given) → ((all : List Given) (w : Worth X) → H all w → G all w)
-    → ((all : List Given) (w : Worth X) → G (g ∷ all) w → H (g ∷ all) w) → (given : List Given) (m : Meant X)
+pub reads-as : {X : Type 0} {G H : List Given → Worth X → Type 0} {g : Given} → Same G H g → (given : List Given) (m : Meant X)
     → Reads H (g ∷ given) m → Reads G (g ∷ given) m
-reads-as G H g into onto given (Open want) r =
-    record { next = r.next; answers = r.answers; more = r.more; worth = r.worth; is = into (g ∷ given ++ r.next ∷ r.more) r.worth r.is }
-reads-as G H g into onto given (Ended x rest) r = as-read G H g into onto given (Value x) rest r
-reads-as G H g into onto given (Wrong kind) r = record { rest = r.rest; is = as-read G H g into onto given (TooLarge kind) r.rest r.is }
+reads-as s given (Open want) r =
+    record { next = r.next; answers = r.answers; more = r.more; worth = r.worth; is = s.into (given ++ r.next ∷ r.more) r.worth r.is }
+reads-as s given (Ended x rest) r = as-read s given (Value x) rest r
+reads-as s given (Wrong kind) r = record { rest = r.rest; is = as-read s given (TooLarge kind) r.rest r.is }
+
+none-as : {X : Type 0} {G H : List Given → Worth X → Type 0} {g : Given} → Same G H g → ((w : Worth X) → G [] w → ⊥) → (given : List Given)
+    → NoneBegins H (g ∷ given) → NoneBegins G (g ∷ given)
+none-as s empty given n more [] behind w e i = empty w i
+none-as {G = G} {H = H} {g = g} s empty given n more (h ∷ all) behind w e i =
+    let head : h ≡ g = cc in
+    n more (h ∷ all) behind w e (subst (λ (k : Given). H (k ∷ all) w) (sym head) (s.onto all w (subst (λ (k : Given). G (k ∷ all) w) head i)))
+
+pub reads-or-as : {X : Type 0} {F : Meant X → Type 0} {G H : List Given → Worth X → Type 0} {g : Given} → Same G H g
+    → ((w : Worth X) → G [] w → ⊥) → (given : List Given) (m : Meant X) → ReadsOr F H (g ∷ given) m → ReadsOr F G (g ∷ given) m
+reads-or-as s empty given m (reads r) = reads (reads-as s given m r)
+reads-or-as s empty given m (none f n) = none f (none-as s empty given n)
+
+-- ---- One grammar for another
+
+pub record Equal {X : Type 0} (G H : List Given → Worth X → Type 0) : Type 0 where
+  pub into : (all : List Given) (w : Worth X) → H all w → G all w
+  pub onto : (all : List Given) (w : Worth X) → G all w → H all w
+
+equal-read : {X : Type 0} {G H : List Given → Worth X → Type 0} → Equal G H → (given : List Given) (w : Worth X) (rest : List Given)
+    → IsRead H given w rest → IsRead G given w rest
+equal-read s given w rest r =
+    record { read = r.read; parts = r.parts; is = s.into r.read w r.is; longest = λ more all behind v e i. r.longest more all behind v e (s.onto all v i) }
+
+pub reads-equal : {X : Type 0} {G H : List Given → Worth X → Type 0} → Equal G H → (given : List Given) (m : Meant X) → Reads H given m → Reads G given m
+reads-equal s given (Open want) r =
+    record { next = r.next; answers = r.answers; more = r.more; worth = r.worth; is = s.into (given ++ r.next ∷ r.more) r.worth r.is }
+reads-equal s given (Ended x rest) r = equal-read s given (Value x) rest r
+reads-equal s given (Wrong kind) r = record { rest = r.rest; is = equal-read s given (TooLarge kind) r.rest r.is }
+
+pub reads-or-equal : {X : Type 0} {F : Meant X → Type 0} {G H : List Given → Worth X → Type 0} → Equal G H → (given : List Given) (m : Meant X)
+    → ReadsOr F H given m → ReadsOr F G given m
+reads-or-equal s given m (reads r) = reads (reads-equal s given m r)
+reads-or-equal s given m (none f n) = none f (λ more all behind w e i. n more all behind w e (s.onto all w i))

@@ -6,6 +6,7 @@ pub mod Numbers
 pub mod Printed
 pub mod Same
 pub mod Scans
+pub mod WordGrammar
 pub mod Words
 pub mod Worked
 pub mod Written

@@ -1,10 +1,16 @@
 //! Laws of readings, by grammars of what may be written.
-ghost use Rattle.std.specs.Prelude.{◌≡◌, ◌⊎◌, List, false};
+ghost use Rattle.std.specs.Prelude.{◌≡◌, ◌↔◌, ◌⊎◌, IsTrue, ℕ, List, ◌∷◌, true, false};
 ghost use Rattle.lb_base.specs.declared.fault.Kind.{Kind};
 ghost use Rattle.lb_base.specs.declared.fault.Kind.TheVariants.{NumberMissing, NumberTooBig};
+ghost use Rattle.lb_base.specs.declared.token.Tok.{Tok};
+ghost use Rattle.lb_model_grammar.specs.Same.{tok_eq};
 ghost use Rattle.lb_model_grammar.specs.declared.given.Given.{Given};
 ghost use Rattle.lb_model_grammar.specs.declared.given.Scanned.{Scanned};
 ghost use Rattle.lb_model_grammar.specs.declared.given.Want.{Want};
+ghost use Rattle.lb_model_grammar.specs.declared.given.ScanKind.TheVariants.{Keyword};
+ghost use Rattle.lb_model_grammar.specs.declared.given.Scanned.TheVariants.{Found};
+ghost use Rattle.lb_model_grammar.specs.Dimensions.{meant};
+ghost use Rattle.lb_model_grammar.specs.WordGrammar.{IsKeyword};
 ghost use Rattle.lb_model_grammar.specs.NumberGrammar.{IsNumber};
 ghost use Rattle.lb_model_grammar.specs.Numbers.{number};
 ghost use Rattle.lb_model_grammar.specs.Scans.Meant.{Open, Ended, Wrong};
@@ -21,4 +27,24 @@ pub fn numbers_read()
     ensures missing { (given : List Given) → number false given ≡ Wrong NumberMissing → NoneBegins (IsNumber false) given }
     ensures no_other_fault { (given : List Given) (kind : Kind) → number false given ≡ Wrong kind → (kind ≡ NumberTooBig) ⊎ (kind ≡ NumberMissing) }
     ensures one_worth { (all : List Given) (x y : Worth Scanned) → IsNumber false all x → IsNumber false all y → x ≡ y }
+{}
+
+/// A keyword is found where it is written behind spaces, in letters of either case. A reading goes on as long as one begins with all that was
+/// given. Where none begins there, all that was given goes back, its spaces too.
+pub fn keywords_read()
+    ensures found { (c : ℕ) (word : List ℕ) (given rest : List Given) → meant (Keyword (c ∷ word)) given ≡ Ended (Found true) rest
+        → IsRead (IsKeyword (c ∷ word)) given (Value (Found true)) rest }
+    ensures goes_on { (c : ℕ) (word : List ℕ) (given : List Given) (want : Want) → meant (Keyword (c ∷ word)) given ≡ Open want
+        → GoesOn (IsKeyword (c ∷ word)) given want }
+    ensures not_found { (c : ℕ) (word : List ℕ) (given rest : List Given) → meant (Keyword (c ∷ word)) given ≡ Ended (Found false) rest
+        → NoneBegins (IsKeyword (c ∷ word)) given }
+    ensures goes_back { (c : ℕ) (word : List ℕ) (given rest : List Given) → meant (Keyword (c ∷ word)) given ≡ Ended (Found false) rest
+        → rest ≡ given }
+    ensures never_wrong { (c : ℕ) (word : List ℕ) (given : List Given) (kind : Kind) → meant (Keyword (c ∷ word)) given ≡ Wrong kind → ⊥ }
+{}
+
+/// Two tokens are one where they are of one kind, and their categories, codes, names and numbers are the same.
+#[tactic(auto, unfolding(crate::specs::Same::tok_eq))]
+pub fn tokens_are_one()
+    ensures { (a b : Tok) → IsTrue (tok_eq a b) ↔ (a ≡ b) }
 {}
