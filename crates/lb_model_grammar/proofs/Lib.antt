@@ -1,3 +1,7 @@
+pub mod DecimalReading
+pub mod DimensionReading
+pub mod LengthReading
 pub mod NumberReading
 pub mod ReadingSteps
+pub mod UnitReading
 pub mod WordReading

@@ -1,5 +1,5 @@
 -- Readings by a grammar, one token at a time.
-use Rattle.std.proofs.Common.{◌≡◌, ◌∙◌, ◌++◌, ◌<◌, ◌≤◌, List, [], ◌∷◌, length, refl, ap, sym, subst, arith}
+use Rattle.std.proofs.Common.{append-nil, ◌≡◌, ◌∙◌, ◌++◌, ◌<◌, ◌≤◌, List, [], ◌∷◌, length, refl, ap, sym, subst, arith}
 use Rattle.lb_base.specs.declared.fault.Kind.{Kind}
 use Rattle.lb_model_grammar.specs.declared.given.Given.{Given}
 use Rattle.lb_model_grammar.specs.declared.given.Want.{Want}
@@ -158,3 +158,55 @@ pub reads-or-equal : {X : Type 0} {F : Meant X → Type 0} {G H : List Given →
     → ReadsOr F H given m → ReadsOr F G given m
 reads-or-equal s given m (reads r) = reads (reads-equal s given m r)
 reads-or-equal s given m (none f n) = none f (λ more all behind w e i. n more all behind w e (s.onto all w i))
+
+-- ---- One grammar for another, of lists that what was given begins, or that begin it
+
+pub record Among {X : Type 0} (G H : List Given → Worth X → Type 0) (given : List Given) : Type 0 where
+  pub into : (more all behind : List Given) (w : Worth X) → given ++ more ≡ all ++ behind → H all w → G all w
+  pub onto : (more all behind : List Given) (w : Worth X) → given ++ more ≡ all ++ behind → G all w → H all w
+
+among-read : {X : Type 0} {G H : List Given → Worth X → Type 0} {given : List Given} → Among G H given → (w : Worth X) (rest : List Given)
+    → IsRead H given w rest → IsRead G given w rest
+among-read {given = given} s w rest r = record {
+  read = r.read;
+  parts = r.parts;
+  is = s.into [] r.read rest w (append-nil given ∙ r.parts) r.is;
+  longest = λ more all behind v e i. r.longest more all behind v e (s.onto more all behind v e i);
+}
+
+pub reads-among : {X : Type 0} {G H : List Given → Worth X → Type 0} {given : List Given} → Among G H given → (m : Meant X) → Reads H given m → Reads G given m
+reads-among {given = given} s (Open want) r =
+    record { next = r.next; answers = r.answers; more = r.more; worth = r.worth; is = s.into (r.next ∷ r.more) (given ++ r.next ∷ r.more) [] r.worth (sym (append-nil (given ++ r.next ∷ r.more))) r.is }
+reads-among s (Ended x rest) r = among-read s (Value x) rest r
+reads-among s (Wrong kind) r = record { rest = r.rest; is = among-read s (TooLarge kind) r.rest r.is }
+
+pub reads-or-among : {X : Type 0} {F : Meant X → Type 0} {G H : List Given → Worth X → Type 0} {given : List Given} → Among G H given → (m : Meant X)
+    → ReadsOr F H given m → ReadsOr F G given m
+reads-or-among s m (reads r) = reads (reads-among s m r)
+reads-or-among s m (none f n) = none f (λ more all behind w e i. n more all behind w e (s.onto more all behind w e i))
+
+-- where the grammar has the empty list, something begins there all the same
+pub reads-or-behind-full : {X : Type 0} {F : Meant X → Type 0} {G H : List Given → Worth X → Type 0} {g : Given} → Step G H g → (given : List Given)
+    → ((w : Worth X) → G [] w → NoneBegins H given → ⊥) → (m : Meant X) → ReadsOr F H given m → ReadsOr F G (g ∷ given) m
+reads-or-behind-full s given empty m (reads r) = reads (reads-behind s given m r)
+reads-or-behind-full s given empty m (none f n) = none f (none-behind s (λ w i. empty w i n) given n)
+
+pub among-same : {X : Type 0} {G H : List Given → Worth X → Type 0} {g : Given} → Same G H g → ((w : Worth X) → G [] w → H [] w) → (given : List Given)
+    → Among G H (g ∷ given)
+among-same {X} {G} {H} {g} s back given = record { into = into; onto = onto } where
+  into : (more all behind : List Given) (w : Worth X) → g ∷ given ++ more ≡ all ++ behind → H all w → G all w
+  into more [] behind w e i = s.empty w i
+  into more (h ∷ all) behind w e i =
+      let head : h ≡ g = cc in
+      subst (λ (k : Given). G (k ∷ all) w) (sym head) (s.into all w (subst (λ (k : Given). H (k ∷ all) w) head i))
+  onto : (more all behind : List Given) (w : Worth X) → g ∷ given ++ more ≡ all ++ behind → G all w → H all w
+  onto more [] behind w e i = back w i
+  onto more (h ∷ all) behind w e i =
+      let head : h ≡ g = cc in
+      subst (λ (k : Given). H (k ∷ all) w) (sym head) (s.onto all w (subst (λ (k : Given). G (k ∷ all) w) head i))
+
+-- the grammar has a list
+pub record Has {X : Type 0} (G : List Given → Worth X → Type 0) : Type 0 where
+  pub some : List Given
+  pub worth : Worth X
+  pub is : G some worth

@@ -37,10 +37,10 @@ letters-spelled K (c ∷ word) behind w k = letter (eq-eqb (lower c) (lower c) r
 
 -- ---- Letters
 
-no-letters : {X : Type 0} (K : List Given → Worth X → Type 0) (c : ℕ) (word : List ℕ) (w : Worth X) → Letters K (c ∷ word) [] w → ⊥
+pub no-letters : {X : Type 0} (K : List Given → Worth X → Type 0) (c : ℕ) (word : List ℕ) (w : Worth X) → Letters K (c ∷ word) [] w → ⊥
 no-letters K c word w l = elim l [ ]
 
-behind-letter : {X : Type 0} (K : List Given → Worth X → Type 0) (c : ℕ) (word : List ℕ) (t : Tok) → is_letter c t ≡ true
+pub behind-letter : {X : Type 0} (K : List Given → Worth X → Type 0) (c : ℕ) (word : List ℕ) (t : Tok) → is_letter c t ≡ true
     → Step (Letters K (c ∷ word)) (Letters K word) (AToken t)
 behind-letter {X} K c word t e = record { into = λ all w r. letter e r; onto = onto } where
   onto : (all : List Given) (w : Worth X) → Letters K (c ∷ word) (AToken t ∷ all) w → Letters K word all w
@@ -50,7 +50,7 @@ no-letter : {X : Type 0} (K : List Given → Worth X → Type 0) (c : ℕ) (word
     → (all : List Given) (w : Worth X) → Letters K (c ∷ word) (AToken t ∷ all) w → ⊥
 no-letter K c word t e all w (letter h r) = cc
 
-none-left : {X : Type 0} (K : List Given → Worth X → Type 0) → Equal (Letters K []) K
+pub none-left : {X : Type 0} (K : List Given → Worth X → Type 0) → Equal (Letters K []) K
 none-left {X} K = record { into = λ all w k. ended k; onto = onto } where
   onto : (all : List Given) (w : Worth X) → Letters K [] all w → K all w
   onto all w (ended k) = k

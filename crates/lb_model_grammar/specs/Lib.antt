@@ -1,6 +1,7 @@
 pub mod Arguments
 pub mod Conditionals
 pub mod Dimensions
+pub mod LengthGrammar
 pub mod NumberGrammar
 pub mod Numbers
 pub mod Printed

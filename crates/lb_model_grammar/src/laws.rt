@@ -9,7 +9,8 @@ ghost use Rattle.lb_model_grammar.specs.declared.given.Scanned.{Scanned};
 ghost use Rattle.lb_model_grammar.specs.declared.given.Want.{Want};
 ghost use Rattle.lb_model_grammar.specs.declared.given.ScanKind.TheVariants.{Keyword};
 ghost use Rattle.lb_model_grammar.specs.declared.given.Scanned.TheVariants.{Found};
-ghost use Rattle.lb_model_grammar.specs.Dimensions.{meant};
+ghost use Rattle.lb_model_grammar.specs.Dimensions.{dimension, meant};
+ghost use Rattle.lb_model_grammar.specs.LengthGrammar.{IsDimension};
 ghost use Rattle.lb_model_grammar.specs.WordGrammar.{IsKeyword};
 ghost use Rattle.lb_model_grammar.specs.NumberGrammar.{IsNumber};
 ghost use Rattle.lb_model_grammar.specs.Numbers.{number};
@@ -47,4 +48,8 @@ pub fn keywords_read()
 #[tactic(auto, unfolding(crate::specs::Same::tok_eq))]
 pub fn tokens_are_one()
     ensures { (a b : Tok) → IsTrue (tok_eq a b) ↔ (a ≡ b) }
+{}
+
+pub fn dimensions_read()
+    ensures { (given rest : List Given) (x : Scanned) → dimension given ≡ Ended x rest → IsRead IsDimension given (Value x) rest }
 {}

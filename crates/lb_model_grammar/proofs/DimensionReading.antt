@@ -1,0 +1,138 @@
+-- What is read of a dimension by itself.
+use Rattle.std.proofs.Common.{◌≡◌, ◌∙◌, ◌++◌, ◌+◌, ◌*◌, ◌/◌, ◌<◌, ◌≤◌, Bool, true, false, not, ℕ, ℤ, pos, nat_lt, List, [], ◌∷◌, length, Some, None, refl, ap, sym, subst, arith, inl, inr, take}
+use Rattle.std.specs.Prelude.{◌⊎◌, Option, if◌then◌else◌, min, nat_abs}
+use Rattle.std.proofs.lemmas.Bool.{le-ltb, ltb-false}
+use Rattle.lb_base.specs.Decimals.{fraction_from_digits}
+use Rattle.lb_base.specs.declared.fault.Kind.{Kind}
+use Rattle.lb_base.specs.declared.fault.Kind.TheVariants.{DimenTooLarge, NumberMissing, NumberTooBig, UnitMissing}
+use Rattle.lb_base.specs.declared.glue.Order.{Order}
+use Rattle.lb_base.specs.declared.glue.Order.TheVariants.{Finite}
+use Rattle.lb_base.specs.declared.token.Category.TheVariants as category
+use Rattle.lb_base.specs.declared.token.Tok.{Tok}
+use Rattle.lb_base.specs.declared.token.Tok.TheVariants.{Char, Word, Active, Param}
+use Rattle.lb_model_grammar.specs.declared.class.Class.{Class}
+use Rattle.lb_model_grammar.specs.declared.class.Class.TheVariants.{Space, Plus, Minus, Digit, Octal, Hexadecimal, Quote, Point, Command, Other}
+use Rattle.lb_model_grammar.specs.declared.given.Given.{Given}
+use Rattle.lb_model_grammar.specs.declared.given.Given.TheVariants.{Tok as AToken, Quantity as AQuantity, End}
+use Rattle.lb_model_grammar.specs.declared.given.Quantity.{Quantity}
+use Rattle.lb_model_grammar.specs.declared.given.Quantity.TheVariants as quantity
+use Rattle.lb_model_grammar.specs.declared.given.Scanned.{Scanned}
+use Rattle.lb_model_grammar.specs.declared.given.Scanned.TheVariants as scanned
+use Rattle.lb_model_grammar.specs.declared.given.Want.{Want}
+use Rattle.lb_model_grammar.specs.declared.given.Want.TheVariants as want
+use Rattle.lb_model_grammar.specs.Dimensions.{Unit_of, Uses, dimension, dimension_alone, units, behind_whole, font_unit, fraction, in_unit, internal, internal_unit, is_negative, length_as, length_behind, point_or_unit, sized, times, unit, unit_as, xor}
+use Rattle.lb_model_grammar.specs.Dimensions.Unit_of.{Infinite, OfFont, Physical, Scaled}
+use Rattle.lb_model_grammar.specs.LengthGrammar.{IsDimension, dimen_alone, found_alone, Alone, BehindWhole, FontSize, Fraction, InUnit, InternalUnit, IsLength, Multiple, OneOf, PointOrUnit, Sized, Spaced, UnitOf, begins_digit, begins_unit}
+use Rattle.lb_model_grammar.specs.LengthGrammar.Alone.{by_itself}
+use Rattle.lb_model_grammar.specs.LengthGrammar.BehindWhole.{large as whole_large, small as whole_small}
+use Rattle.lb_model_grammar.specs.LengthGrammar.FontSize.{size}
+use Rattle.lb_model_grammar.specs.LengthGrammar.Fraction.{digit as fraction_digit, unit as fraction_unit}
+use Rattle.lb_model_grammar.specs.LengthGrammar.InternalUnit.{dimen}
+use Rattle.lb_model_grammar.specs.LengthGrammar.IsLength.{blank, decimal, fraction as point_first, internal as an_internal, minus, plus}
+use Rattle.lb_model_grammar.specs.LengthGrammar.PointOrUnit.{point as a_point, unit as no_point}
+use Rattle.lb_model_grammar.specs.LengthGrammar.Sized.{large, small}
+use Rattle.lb_model_grammar.specs.LengthGrammar.Spaced.{bare, space}
+use Rattle.lb_model_grammar.specs.LengthGrammar.UnitOf.{blank as unit_blank, internal as unit_internal, letters as unit_letters}
+use Rattle.lb_model_grammar.specs.NumberGrammar.{Digits}
+use Rattle.lb_model_grammar.specs.NumberGrammar.Digits.{digit, last}
+use Rattle.lb_model_grammar.specs.Scans.{Meant, class_of, digit_of, digits, grown, if_digit, is_other, is_space, one_of, signed, space_before}
+use Rattle.lb_model_grammar.specs.Scans.Meant.{Open, Ended, Wrong}
+use Rattle.lb_model_grammar.specs.WordGrammar.{Nothing, begins_blank}
+use Rattle.lb_model_grammar.specs.WordGrammar.Nothing.{more as nothing_more}
+use Rattle.lb_model_grammar.specs.WordGrammar.Letters.{ended, letter}
+use Rattle.lb_model_grammar.specs.LengthGrammar.OneOf.{here, there}
+use Rattle.lb_model_grammar.specs.Written.{Answers, GoesOn, IsRead, IsTooLarge, NoneBegins, Reads, ReadsOr, Worth}
+use Rattle.lb_model_grammar.specs.Written.Answers.{em, ex, expanded, quantity as a_quantity}
+use Rattle.lb_model_grammar.specs.Written.ReadsOr.{none, reads}
+use Rattle.lb_model_grammar.specs.Written.Worth.{TooLarge, Value}
+use Rattle.lb_model_grammar.proofs.DecimalReading.{length-reads}
+use Rattle.lb_model_grammar.proofs.LengthReading.{Behind, Lacks, font-reads, sized-has, spaced-has, spaced-size}
+use Rattle.lb_model_grammar.proofs.UnitReading.{Each, table-not-empty, table-reads}
+use Rattle.lb_model_grammar.proofs.UnitReading.Each.{next, no_more}
+use Rattle.lb_model_grammar.proofs.NumberReading.{Alike, grown-alike}
+use Rattle.lb_model_grammar.proofs.NumberReading.Alike.{large as alike_large, same as alike_same}
+use Rattle.lb_model_grammar.proofs.ReadingSteps.{Equal, Has, Same, Step, among-same, nothing-begins, reads-as, reads-behind, reads-equal, reads-or-among, reads-or-as, reads-or-behind, reads-or-behind-full}
+
+
+pub units-each : (u : Uses) (found : Order → ℤ → List Given → Worth Scanned → Type 0) → ((order : Order) (v : ℤ) → Has (found order v))
+    → ((order : Order) (v : ℤ) (given : List Given) → Reads (found order v) given (u.found order v given))
+    → (n : Bool) (whole fraction : ℕ) → Each (Lacks u) (InUnit found n whole fraction) (in_unit u n whole fraction) units
+units-each u found h r n whole fraction =
+    physical 1 1 (physical 7227 100 (physical 12 1 (physical 7227 254 (physical 7227 2540 (physical 7227 7200 (physical 1238 1157 (physical 14856 1157
+    (next scaled.some scaled.worth scaled.is (λ rest. reads (spaced-size u found h r n Finite whole rest))
+    (next font.some font.worth font.is (font-reads u found h r want.Em em n whole fraction)
+    (next font.some font.worth font.is (font-reads u found h r want.Ex ex n whole fraction) no_more)))))))))) where
+  scaled : Has (Spaced (Sized found n Finite whole))
+  scaled = spaced-has (Sized found n Finite whole) (sized-has found h n Finite whole)
+  font : Has (FontSize found n whole fraction)
+  font =
+      let k : Has (Spaced (Multiple found n whole fraction (pos 0))) = spaced-has (Multiple found n whole fraction (pos 0)) (sized-has found h (xor n false) Finite (times whole fraction 0)) in
+      record { some = AQuantity (quantity.Dimen (pos 0)) ∷ k.some; worth = k.worth; is = size k.is }
+  physical : (a b : ℕ) {word : List ℕ} {table : List (List ℕ × Unit_of)} → Each (Lacks u) (InUnit found n whole fraction) (in_unit u n whole fraction) table
+      → Each (Lacks u) (InUnit found n whole fraction) (in_unit u n whole fraction) ((word, Physical a b) ∷ table)
+  physical a b each =
+      let k : Has (Spaced (Sized found n Finite (a * (65536 * whole + fraction) / b))) = spaced-has (Sized found n Finite (a * (65536 * whole + fraction) / b)) (sized-has found h n Finite (a * (65536 * whole + fraction) / b)) in
+      next k.some k.worth k.is (λ rest. reads (spaced-size u found h r n Finite (a * (65536 * whole + fraction) / b) rest)) each
+
+-- a unit that begins with p
+pub point-rest : (found : Order → ℤ → List Given → Worth Scanned → Type 0) → ((order : Order) (v : ℤ) → Has (found order v)) → (n : Bool) (whole fraction : ℕ)
+    → Has (λ all w. OneOf (InUnit found n whole fraction) units (AToken (Char category.Letter 112) ∷ all) w)
+point-rest found h n whole fraction =
+    let size : ℕ = 1 * (65536 * whole + fraction) / 1 in
+    let k : Has (Spaced (Sized found n Finite size)) = spaced-has (Sized found n Finite size) (sized-has found h n Finite size) in
+    record { some = AToken (Char category.Letter 116) ∷ k.some; worth = k.worth; is = here (letter refl (letter refl (ended k.is))) }
+
+pub nothing-more : {X : Type 0} (x : X) (given : List Given) → IsRead (Nothing (Value x)) given (Value x) given
+nothing-more x given = record { read = []; parts = refl; is = nothing_more; longest = λ more all behind w e i. short all w i } where
+  short : (all : List Given) (w : Worth _) → Nothing (Value x) all w → length all ≤ 0
+  short _ w nothing_more = omega arith
+
+abbrev by_itself_uses : Uses
+by_itself_uses = record { units = units; found = λ order v rest. Ended (scanned.Dimen v) rest; alone = dimension_alone; missing = Wrong }
+
+nothing-has : (x : Scanned) → Has (Nothing (Value x))
+nothing-has x = record { some = []; worth = Value x; is = nothing_more }
+
+dimension-behind : Behind by_itself_uses found_alone dimen_alone
+dimension-behind = record {
+  found_reads = λ order v given. nothing-more (scanned.Dimen v) given;
+  found_has = λ order v. nothing-has (scanned.Dimen v);
+  alone_reads = alone_reads;
+  alone_has = λ n. nothing-has (scanned.Dimen (signed n (pos 0)));
+  units_read = λ n whole fraction given. table-reads (Lacks by_itself_uses) (InUnit found_alone n whole fraction) (in_unit by_itself_uses n whole fraction) (Wrong UnitMissing) (inr refl) units refl
+    (units-each by_itself_uses found_alone (λ order v. nothing-has (scanned.Dimen v)) (λ order v all. nothing-more (scanned.Dimen v) all) n whole fraction) given;
+  units_filled = λ n whole fraction w. table-not-empty (InUnit found_alone n whole fraction) units w refl;
+  unit_rest = point-rest found_alone (λ order v. nothing-has (scanned.Dimen v));
+} where
+  alone_reads : (n : Bool) (q : Quantity) (given : List Given) → ReadsOr (Lacks by_itself_uses) (dimen_alone n q) given (dimension_alone n q given)
+  alone_reads n (quantity.Dimen v) given = reads (nothing-more (scanned.Dimen (signed n v)) given)
+  alone_reads n quantity.NotOne given = none (inl refl) (λ more all behind w e r. r)
+  alone_reads n (quantity.Number q) given = none (inl refl) (λ more all behind w e r. r)
+  alone_reads n (quantity.Skip q) given = none (inl refl) (λ more all behind w e r. r)
+
+pub dimension-reads : (given : List Given) → ReadsOr (Lacks by_itself_uses) IsDimension given (dimension given)
+dimension-reads given = length-reads by_itself_uses found_alone dimen_alone dimension-behind false given
+
+-- ---- By what the list means
+
+pub dimension-read : (given rest : List Given) (x : Scanned) → dimension given ≡ Ended x rest → IsRead IsDimension given (Value x) rest
+dimension-read given rest x e = by (dimension-reads given) where
+  by : ReadsOr (Lacks by_itself_uses) IsDimension given (dimension given) → IsRead IsDimension given (Value x) rest
+  by (reads r) = subst (λ (m : Meant Scanned). Reads IsDimension given m) e r
+  by (none (inl m) n) = cc
+  by (none (inr m) n) = cc
+
+pub dimension-goes_on : (given : List Given) (want : Want) → dimension given ≡ Open want → GoesOn IsDimension given want
+dimension-goes_on given want e = by (dimension-reads given) where
+  by : ReadsOr (Lacks by_itself_uses) IsDimension given (dimension given) → GoesOn IsDimension given want
+  by (reads r) = subst (λ (m : Meant Scanned). Reads IsDimension given m) e r
+  by (none (inl m) n) = cc
+  by (none (inr m) n) = cc
+
+pub dimension-wrong : (given : List Given) (kind : Kind) → dimension given ≡ Wrong kind
+    → IsTooLarge IsDimension given kind ⊎ (((kind ≡ NumberMissing) ⊎ (kind ≡ UnitMissing)) × NoneBegins IsDimension given)
+dimension-wrong given kind e = by (dimension-reads given) where
+  by : ReadsOr (Lacks by_itself_uses) IsDimension given (dimension given) → IsTooLarge IsDimension given kind ⊎ (((kind ≡ NumberMissing) ⊎ (kind ≡ UnitMissing)) × NoneBegins IsDimension given)
+  by (reads r) = inl (subst (λ (m : Meant Scanned). Reads IsDimension given m) e r)
+  by (none (inl m) n) = inr (inl cc, n)
+  by (none (inr m) n) = inr (inr cc, n)
