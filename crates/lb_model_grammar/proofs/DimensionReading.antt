@@ -37,7 +37,7 @@ use Rattle.lb_model_grammar.specs.NumberGrammar.{Digits}
 use Rattle.lb_model_grammar.specs.NumberGrammar.Digits.{digit, last}
 use Rattle.lb_model_grammar.specs.Scans.{Meant, class_of, digit_of, digits, grown, if_digit, is_other, is_space, one_of, signed, space_before}
 use Rattle.lb_model_grammar.specs.Scans.Meant.{Open, Ended, Wrong}
-use Rattle.lb_model_grammar.specs.WordGrammar.{Nothing, begins_blank}
+use Rattle.lb_model_grammar.specs.WordGrammar.{Letters, Nothing, begins_blank}
 use Rattle.lb_model_grammar.specs.WordGrammar.Nothing.{more as nothing_more}
 use Rattle.lb_model_grammar.specs.WordGrammar.Letters.{ended, letter}
 use Rattle.lb_model_grammar.specs.LengthGrammar.OneOf.{here, there}
@@ -136,3 +136,126 @@ dimension-wrong given kind e = by (dimension-reads given) where
   by (reads r) = inl (subst (λ (m : Meant Scanned). Reads IsDimension given m) e r)
   by (none (inl m) n) = inr (inl cc, n)
   by (none (inr m) n) = inr (inr cc, n)
+
+-- ---- What dimensions are worth
+
+spaced-all : (P : Worth Scanned → Type 0) (K : List Given → Worth Scanned → Type 0) → ((all : List Given) (w : Worth Scanned) → K all w → P w)
+    → (all : List Given) (w : Worth Scanned) → Spaced K all w → P w
+spaced-all P K k all w (bare b r) = k all w r
+spaced-all P K k _ w (space {given = all} h r) = k all w r
+
+sized-all : (P : Worth Scanned → Type 0) → P (TooLarge DimenTooLarge) → (found : Order → ℤ → List Given → Worth Scanned → Type 0)
+    → ((order : Order) (v : ℤ) (all : List Given) (w : Worth Scanned) → found order v all w → P w)
+    → (n : Bool) (order : Order) (x : ℕ) (all : List Given) (w : Worth Scanned) → Sized found n order x all w → P w
+sized-all P p found f n order x all w (small h r) = f order (signed n (pos x)) all w r
+sized-all P p found f n order x _ _ (large h) = p
+
+font-all : (P : Worth Scanned → Type 0) → P (TooLarge DimenTooLarge) → (found : Order → ℤ → List Given → Worth Scanned → Type 0)
+    → ((order : Order) (v : ℤ) (all : List Given) (w : Worth Scanned) → found order v all w → P w)
+    → (n : Bool) (whole fraction : ℕ) (all : List Given) (w : Worth Scanned) → FontSize found n whole fraction all w → P w
+font-all P p found f n whole fraction _ w (size {v = v} {given = all} r) =
+    spaced-all P (Multiple found n whole fraction v) (sized-all P p found f (xor n (is_negative v)) Finite (times whole fraction (nat_abs v))) all w r
+
+in-unit-all : (P : Worth Scanned → Type 0) → P (TooLarge DimenTooLarge) → (found : Order → ℤ → List Given → Worth Scanned → Type 0)
+    → ((order : Order) (v : ℤ) (all : List Given) (w : Worth Scanned) → found order v all w → P w)
+    → (n : Bool) (whole fraction : ℕ) (u : Unit_of) (all : List Given) (w : Worth Scanned) → InUnit found n whole fraction u all w → P w
+in-unit-all P p found f n whole fraction (Physical a b) all w r = spaced-all P _ (sized-all P p found f n Finite (a * (65536 * whole + fraction) / b)) all w r
+in-unit-all P p found f n whole fraction Scaled all w r = spaced-all P _ (sized-all P p found f n Finite whole) all w r
+in-unit-all P p found f n whole fraction (OfFont asked) all w r = font-all P p found f n whole fraction all w r
+in-unit-all P p found f n whole fraction (Infinite order) all w r = spaced-all P _ (sized-all P p found f n order (65536 * whole + fraction)) all w r
+
+letters-all : (P : Worth Scanned → Type 0) (K : List Given → Worth Scanned → Type 0) → ((all : List Given) (w : Worth Scanned) → K all w → P w)
+    → (word : List ℕ) (all : List Given) (w : Worth Scanned) → Letters K word all w → P w
+letters-all P K k _ all w (ended r) = k all w r
+letters-all P K k _ _ w (letter {word = word} {given = all} h r) = letters-all P K k word all w r
+
+one-of-all : (P : Worth Scanned → Type 0) (K : Unit_of → List Given → Worth Scanned → Type 0) → ((u : Unit_of) (all : List Given) (w : Worth Scanned) → K u all w → P w)
+    → (table : List (List ℕ × Unit_of)) (all : List Given) (w : Worth Scanned) → OneOf K table all w → P w
+one-of-all P K k _ all w (here {u = u} r) = letters-all P (K u.1) (k u.1) u.0 all w r
+one-of-all P K k _ all w (there {table = table} r) = one-of-all P K k table all w r
+
+unit-all : (P : Worth Scanned → Type 0) → P (TooLarge DimenTooLarge) → (table : List (List ℕ × Unit_of)) (found : Order → ℤ → List Given → Worth Scanned → Type 0)
+    → ((order : Order) (v : ℤ) (all : List Given) (w : Worth Scanned) → found order v all w → P w)
+    → (n : Bool) (whole fraction : ℕ) (all : List Given) (w : Worth Scanned) → UnitOf table found n whole fraction all w → P w
+unit-all P p table found f n whole fraction _ w (unit_blank {given = all} h r) = unit-all P p table found f n whole fraction all w r
+unit-all P p table found f n whole fraction _ w (unit_internal h (dimen {v = v} {given = all} r)) =
+    sized-all P p found f (xor n (is_negative v)) Finite (times whole fraction (nat_abs v)) all w r
+unit-all P p table found f n whole fraction _ w (unit_letters {t = t} {given = all} h r) =
+    one-of-all P (InUnit found n whole fraction) (in-unit-all P p found f n whole fraction) table (AToken t ∷ all) w r
+
+fraction-all : (P : Worth Scanned → Type 0) → P (TooLarge DimenTooLarge) → (table : List (List ℕ × Unit_of)) (found : Order → ℤ → List Given → Worth Scanned → Type 0)
+    → ((order : Order) (v : ℤ) (all : List Given) (w : Worth Scanned) → found order v all w → P w)
+    → (n : Bool) (whole : ℕ) (ds : List ℕ) (all : List Given) (w : Worth Scanned) → Fraction table found n whole ds all w → P w
+fraction-all P p table found f n whole ds _ w (fraction_digit {d = d} {given = all} h r) = fraction-all P p table found f n whole (ds ++ d ∷ []) all w r
+fraction-all P p table found f n whole ds all w (fraction_unit h r) = unit-all P p table found f n whole (fraction_from_digits (take 17 ds)) all w r
+
+whole-all : (P : Worth Scanned → Type 0) → P (TooLarge DimenTooLarge) → P (TooLarge NumberTooBig) → (table : List (List ℕ × Unit_of)) (found : Order → ℤ → List Given → Worth Scanned → Type 0)
+    → ((order : Order) (v : ℤ) (all : List Given) (w : Worth Scanned) → found order v all w → P w)
+    → (n : Bool) (whole : ℕ) (all : List Given) (w : Worth Scanned) → BehindWhole table found n whole all w → P w
+whole-all P p q table found f n whole _ w (whole_small h d (a_point {given = all} e r)) = fraction-all P p table found f n whole [] all w r
+whole-all P p q table found f n whole _ w (whole_small h d (no_point {t = t} {given = all} e r)) = unit-all P p table found f n whole 0 (AToken t ∷ all) w r
+whole-all P p q table found f n whole _ _ (whole_large h) = q
+
+digits-all : (P : Worth Scanned → Type 0) (K : ℕ → List Given → Worth Scanned → Type 0) → ((v : ℕ) (all : List Given) (w : Worth Scanned) → K v all w → P w)
+    → (v : ℕ) (all : List Given) (w : Worth Scanned) → Digits 10 K v all w → P w
+digits-all P K k v all w (last r) = k v all w r
+digits-all P K k v _ w (digit {d = d} {given = all} h r) = digits-all P K k (10 * v + d) all w r
+
+-- what holds of all that stands behind a dimension, and of what is too large, holds of it
+pub length-all : (P : Worth Scanned → Type 0) → P (TooLarge DimenTooLarge) → P (TooLarge NumberTooBig) → (table : List (List ℕ × Unit_of))
+    → (found : Order → ℤ → List Given → Worth Scanned → Type 0) (alone : Bool → Quantity → List Given → Worth Scanned → Type 0)
+    → ((order : Order) (v : ℤ) (all : List Given) (w : Worth Scanned) → found order v all w → P w)
+    → ((n : Bool) (q : Quantity) (all : List Given) (w : Worth Scanned) → alone n q all w → P w)
+    → (n : Bool) (all : List Given) (w : Worth Scanned) → IsLength table found alone n all w → P w
+length-all P p q table found alone f a n _ w (blank {given = all} h r) = length-all P p q table found alone f a n all w r
+length-all P p q table found alone f a n _ w (plus {given = all} h r) = length-all P p q table found alone f a n all w r
+length-all P p q table found alone f a n _ w (minus {given = all} h r) = length-all P p q table found alone f a (not n) all w r
+length-all P p q table found alone f a n _ w (decimal {d = d} {given = all} h r) =
+    digits-all P (BehindWhole table found n) (whole-all P p q table found f n) d all w r
+length-all P p q table found alone f a n _ w (point_first {given = all} h r) = fraction-all P p table found f n 0 [] all w r
+length-all P p q table found alone f a n _ w (an_internal h (by_itself {q = y} {given = all} r)) = a n y all w r
+
+-- what is too large is a size or a whole part
+abbrev IsFine : Worth Scanned → Type 0
+IsFine (Value x) = Unit {0}
+IsFine (TooLarge kind) = (kind ≡ DimenTooLarge) ⊎ (kind ≡ NumberTooBig)
+
+dimension-fine : (all : List Given) (w : Worth Scanned) → IsDimension all w → IsFine w
+dimension-fine all w r = length-all IsFine (inl refl) (inr refl) units found_alone dimen_alone found_fine alone_fine false all w r where
+  found_fine : (order : Order) (v : ℤ) (all : List Given) (w : Worth Scanned) → found_alone order v all w → IsFine w
+  found_fine order v _ _ nothing_more = tt
+  alone_fine : (n : Bool) (q : Quantity) (all : List Given) (w : Worth Scanned) → dimen_alone n q all w → IsFine w
+  alone_fine n (quantity.Dimen v) _ _ nothing_more = tt
+  alone_fine n quantity.NotOne all w r = absurd r
+  alone_fine n (quantity.Number v) all w r = absurd r
+  alone_fine n (quantity.Skip v) all w r = absurd r
+
+pub dimension-missing : (given : List Given) (kind : Kind) → dimension given ≡ Wrong kind → (kind ≡ NumberMissing) ⊎ (kind ≡ UnitMissing) → NoneBegins IsDimension given
+dimension-missing given kind e h = by (dimension-wrong given kind e) where
+  by : IsTooLarge IsDimension given kind ⊎ (((kind ≡ NumberMissing) ⊎ (kind ≡ UnitMissing)) × NoneBegins IsDimension given) → NoneBegins IsDimension given
+  by (inr n) = n.1
+  by (inl t) = absurd (never h (dimension-fine t.is.read (TooLarge kind) t.is.is)) where
+    never : (kind ≡ NumberMissing) ⊎ (kind ≡ UnitMissing) → (kind ≡ DimenTooLarge) ⊎ (kind ≡ NumberTooBig) → ⊥
+    never (inl a) (inl b) = cc
+    never (inl a) (inr b) = cc
+    never (inr a) (inl b) = cc
+    never (inr a) (inr b) = cc
+
+pub dimension-too_large : (given : List Given) (kind : Kind) → dimension given ≡ Wrong kind → (kind ≡ DimenTooLarge) ⊎ (kind ≡ NumberTooBig) → IsTooLarge IsDimension given kind
+dimension-too_large given kind e h = by (dimension-wrong given kind e) where
+  by : IsTooLarge IsDimension given kind ⊎ (((kind ≡ NumberMissing) ⊎ (kind ≡ UnitMissing)) × NoneBegins IsDimension given) → IsTooLarge IsDimension given kind
+  by (inl t) = t
+  by (inr n) = absurd (never n.0 h) where
+    never : (kind ≡ NumberMissing) ⊎ (kind ≡ UnitMissing) → (kind ≡ DimenTooLarge) ⊎ (kind ≡ NumberTooBig) → ⊥
+    never (inl a) (inl b) = cc
+    never (inl a) (inr b) = cc
+    never (inr a) (inl b) = cc
+    never (inr a) (inr b) = cc
+
+pub dimension-faults : (given : List Given) (kind : Kind) → dimension given ≡ Wrong kind
+    → ((kind ≡ DimenTooLarge) ⊎ (kind ≡ NumberTooBig)) ⊎ ((kind ≡ NumberMissing) ⊎ (kind ≡ UnitMissing))
+dimension-faults given kind e = by (dimension-wrong given kind e) where
+  by : IsTooLarge IsDimension given kind ⊎ (((kind ≡ NumberMissing) ⊎ (kind ≡ UnitMissing)) × NoneBegins IsDimension given)
+      → ((kind ≡ DimenTooLarge) ⊎ (kind ≡ NumberTooBig)) ⊎ ((kind ≡ NumberMissing) ⊎ (kind ≡ UnitMissing))
+  by (inl t) = inl (dimension-fine t.is.read (TooLarge kind) t.is.is)
+  by (inr n) = inr n.0

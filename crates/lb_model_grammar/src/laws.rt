@@ -1,7 +1,7 @@
 //! Laws of readings, by grammars of what may be written.
 ghost use Rattle.std.specs.Prelude.{◌≡◌, ◌↔◌, ◌⊎◌, IsTrue, ℕ, List, ◌∷◌, true, false};
 ghost use Rattle.lb_base.specs.declared.fault.Kind.{Kind};
-ghost use Rattle.lb_base.specs.declared.fault.Kind.TheVariants.{NumberMissing, NumberTooBig};
+ghost use Rattle.lb_base.specs.declared.fault.Kind.TheVariants.{DimenTooLarge, NumberMissing, NumberTooBig, UnitMissing};
 ghost use Rattle.lb_base.specs.declared.token.Tok.{Tok};
 ghost use Rattle.lb_model_grammar.specs.Same.{tok_eq};
 ghost use Rattle.lb_model_grammar.specs.declared.given.Given.{Given};
@@ -50,6 +50,16 @@ pub fn tokens_are_one()
     ensures { (a b : Tok) → IsTrue (tok_eq a b) ↔ (a ≡ b) }
 {}
 
+/// What is read as a dimension is written by the grammar of dimensions, has that value, and no longer dimension begins there. A reading goes on
+/// as long as one begins with all that was given. It is too large where a dimension that begins there has too large a size, or too big a whole
+/// part, and a number or a unit is missing where none begins there.
 pub fn dimensions_read()
-    ensures { (given rest : List Given) (x : Scanned) → dimension given ≡ Ended x rest → IsRead IsDimension given (Value x) rest }
+    ensures read { (given rest : List Given) (x : Scanned) → dimension given ≡ Ended x rest → IsRead IsDimension given (Value x) rest }
+    ensures goes_on { (given : List Given) (want : Want) → dimension given ≡ Open want → GoesOn IsDimension given want }
+    ensures too_large { (given : List Given) (kind : Kind) → dimension given ≡ Wrong kind → (kind ≡ DimenTooLarge) ⊎ (kind ≡ NumberTooBig)
+        → IsTooLarge IsDimension given kind }
+    ensures missing { (given : List Given) (kind : Kind) → dimension given ≡ Wrong kind → (kind ≡ NumberMissing) ⊎ (kind ≡ UnitMissing)
+        → NoneBegins IsDimension given }
+    ensures no_other_fault { (given : List Given) (kind : Kind) → dimension given ≡ Wrong kind
+        → ((kind ≡ DimenTooLarge) ⊎ (kind ≡ NumberTooBig)) ⊎ ((kind ≡ NumberMissing) ⊎ (kind ≡ UnitMissing)) }
 {}
