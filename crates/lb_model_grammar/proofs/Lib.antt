@@ -1,3 +1,4 @@
+pub mod ArgumentReading
 pub mod DecimalReading
 pub mod DimensionReading
 pub mod LengthReading

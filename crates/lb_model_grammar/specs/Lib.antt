@@ -1,3 +1,4 @@
+pub mod ArgumentGrammar
 pub mod Arguments
 pub mod Conditionals
 pub mod Dimensions

@@ -1,5 +1,5 @@
 //! Laws of readings, by grammars of what may be written.
-ghost use Rattle.std.specs.Prelude.{◌≡◌, ◌↔◌, ◌⊎◌, IsTrue, ℕ, List, ◌∷◌, true, false};
+ghost use Rattle.std.specs.Prelude.{◌≡◌, ◌↔◌, ◌⊎◌, IsTrue, Bool, ℕ, List, ◌∷◌, true, false};
 ghost use Rattle.lb_base.specs.declared.fault.Kind.{Kind};
 ghost use Rattle.lb_base.specs.declared.fault.Kind.TheVariants.{DimenTooLarge, NumberMissing, NumberTooBig, UnitMissing};
 ghost use Rattle.lb_base.specs.declared.token.Tok.{Tok};
@@ -9,6 +9,8 @@ ghost use Rattle.lb_model_grammar.specs.declared.given.Scanned.{Scanned};
 ghost use Rattle.lb_model_grammar.specs.declared.given.Want.{Want};
 ghost use Rattle.lb_model_grammar.specs.declared.given.ScanKind.TheVariants.{Keyword};
 ghost use Rattle.lb_model_grammar.specs.declared.given.Scanned.TheVariants.{Found};
+ghost use Rattle.lb_model_grammar.specs.ArgumentGrammar.{IsDelimited};
+ghost use Rattle.lb_model_grammar.specs.Arguments.{argument, without_braces};
 ghost use Rattle.lb_model_grammar.specs.Dimensions.{dimension, meant};
 ghost use Rattle.lb_model_grammar.specs.LengthGrammar.{IsDimension};
 ghost use Rattle.lb_model_grammar.specs.WordGrammar.{IsKeyword};
@@ -62,4 +64,9 @@ pub fn dimensions_read()
         → NoneBegins IsDimension given }
     ensures no_other_fault { (given : List Given) (kind : Kind) → dimension given ≡ Wrong kind
         → ((kind ≡ DimenTooLarge) ⊎ (kind ≡ NumberTooBig)) ⊎ ((kind ≡ NumberMissing) ⊎ (kind ≡ UnitMissing)) }
+{}
+
+pub fn delimited_arguments_read()
+    ensures { (long : Bool) (d : Tok) (delimiter arg : List Tok) (given rest : List Given) → argument long (d ∷ delimiter) given ≡ Ended arg rest
+        → (body : List Tok) × (arg ≡ without_braces body) × IsDelimited long (d ∷ delimiter) given body rest }
 {}
