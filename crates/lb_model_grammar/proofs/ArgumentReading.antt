@@ -34,7 +34,7 @@ same-tok a = (tok-same a a).1 refl
 
 -- ---- What a token is in an argument
 
-data Stands (long : Bool) (t : Tok) : Type 0 where
+pub data Stands (long : Bool) (t : Tok) : Type 0 where
   opening : brace_of long t ≡ Opening → opens t ≡ true → ((level : ℕ) → level_then t level ≡ Some (suc level)) → is_barred long t ≡ false → Stands long t
   closing : brace_of long t ≡ Closing → closes t ≡ true → ((level : ℕ) → level_then t level ≡ one_less level) → is_barred long t ≡ false → Stands long t
   paragraph : brace_of long t ≡ Paragraph → is_barred long t ≡ true → Stands long t
@@ -44,7 +44,7 @@ word-stands : (long : Bool) (name : List ℕ) (b : Bool) → is_barred long (Wor
 word-stands long name true e = paragraph (ap (λ (b : Bool). if b then Paragraph else Plain) e) e
 word-stands long name false e = plain (ap (λ (b : Bool). if b then Paragraph else Plain) e) refl refl (λ level. refl) e
 
-stands : (long : Bool) (t : Tok) → Stands long t
+pub stands : (long : Bool) (t : Tok) → Stands long t
 stands long (Char category.BeginGroup c) = opening refl refl (λ level. refl) refl
 stands long (Char category.EndGroup c) = closing refl refl (λ level. refl) refl
 stands long (Char cat c) = plain refl refl refl (λ level. refl) refl
@@ -82,12 +82,12 @@ begins-not (d ∷ delimiter) (AQuantity x ∷ given) more behind e q = cc
 begins-not (d ∷ delimiter) (End ∷ given) more behind e q = cc
 
 -- a thing that is no token stands among the first so many
-data Cuts : ℕ → List Given → Type 0 where
+pub data Cuts : ℕ → List Given → Type 0 where
   quantity : {n : ℕ} {q : Quantity} {given : List Given} → Cuts (suc n) (AQuantity q ∷ given)
   end : {n : ℕ} {given : List Given} → Cuts (suc n) (End ∷ given)
   later : {n : ℕ} {t : Tok} {given : List Given} → Cuts n given → Cuts (suc n) (AToken t ∷ given)
 
-begins-cut : (delimiter : List Tok) (given : List Given) → begins delimiter given ≡ Cut → Cuts (length delimiter) given
+pub begins-cut : (delimiter : List Tok) (given : List Given) → begins delimiter given ≡ Cut → Cuts (length delimiter) given
 begins-cut [] given e = cc
 begins-cut (d ∷ delimiter) [] e = cc
 begins-cut (d ∷ delimiter) (AToken t ∷ given) e = at (tok_eq d t) refl e (begins-cut delimiter given) where
@@ -115,13 +115,13 @@ before-before (t ∷ a) b behind = ap (λ l. AToken t ∷ l) (before-before a b 
 
 -- ---- The longest lists that are taken
 
-longer-ended : {X : Type 0} (body : List Tok) (t : Tok) (more : List Tok → Meant X) (x : X) (rest : List Given) → longer body t more ≡ Ended x rest → more (body ++ t ∷ []) ≡ Ended x rest
+pub longer-ended : {X : Type 0} (body : List Tok) (t : Tok) (more : List Tok → Meant X) (x : X) (rest : List Given) → longer body t more ≡ Ended x rest → more (body ++ t ∷ []) ≡ Ended x rest
 longer-ended {X} body t more x rest e = at (nat_lt (length body) 1000000) e where
   at : (b : Bool) → (if b then more (body ++ t ∷ []) else Wrong DepthLimit) ≡ Ended x rest → more (body ++ t ∷ []) ≡ Ended x rest
   at true q = q
   at false q = cc
 
-longer-wrong : {X : Type 0} (body : List Tok) (t : Tok) (more : List Tok → Meant X) (kind : Kind) → longer body t more ≡ Wrong kind
+pub longer-wrong : {X : Type 0} (body : List Tok) (t : Tok) (more : List Tok → Meant X) (kind : Kind) → longer body t more ≡ Wrong kind
     → ((kind ≡ DepthLimit) × (1000000 ≤ length body)) ⊎ (more (body ++ t ∷ []) ≡ Wrong kind)
 longer-wrong {X} body t more kind e = at (nat_lt (length body) 1000000) refl e where
   at : (b : Bool) → nat_lt (length body) 1000000 ≡ b → (if b then more (body ++ t ∷ []) else Wrong DepthLimit) ≡ Wrong kind
@@ -304,7 +304,7 @@ none-taken long d delimiter level body t given kind n ih (plain k o c l f) e =
   either (inl m) = inl m
   either (inr q) = inr (ih level (body ++ t ∷ []) q)
 
-cut-at-base : (level : ℕ) (begun : Begun) → at_base level begun ≡ Cut → begun ≡ Cut
+pub cut-at-base : (level : ℕ) (begun : Begun) → at_base level begun ≡ Cut → begun ≡ Cut
 cut-at-base zero begun e = e
 cut-at-base (suc level) begun e = cc
 

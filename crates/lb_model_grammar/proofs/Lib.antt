@@ -1,6 +1,7 @@
 pub mod ArgumentReading
 pub mod DecimalReading
 pub mod DimensionReading
+pub mod GroupReading
 pub mod LengthReading
 pub mod NumberReading
 pub mod ReadingSteps

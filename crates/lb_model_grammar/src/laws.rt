@@ -1,7 +1,7 @@
 //! Laws of readings, by grammars of what may be written.
-ghost use Rattle.std.specs.Prelude.{◌≡◌, ◌↔◌, ◌⊎◌, IsTrue, Bool, ℕ, List, ◌∷◌, true, false};
+ghost use Rattle.std.specs.Prelude.{◌≡◌, ◌↔◌, ◌⊎◌, IsTrue, Bool, ℕ, List, [], ◌∷◌, true, false};
 ghost use Rattle.lb_base.specs.declared.fault.Kind.{Kind};
-ghost use Rattle.lb_base.specs.declared.fault.Kind.TheVariants.{DimenTooLarge, NumberMissing, NumberTooBig, UnitMissing};
+ghost use Rattle.lb_base.specs.declared.fault.Kind.TheVariants.{DepthLimit, DimenTooLarge, NumberMissing, NumberTooBig, Runaway, UnitMissing, UseMismatch};
 ghost use Rattle.lb_base.specs.declared.token.Tok.{Tok};
 ghost use Rattle.lb_model_grammar.specs.Same.{tok_eq};
 ghost use Rattle.lb_model_grammar.specs.declared.given.Given.{Given};
@@ -9,7 +9,7 @@ ghost use Rattle.lb_model_grammar.specs.declared.given.Scanned.{Scanned};
 ghost use Rattle.lb_model_grammar.specs.declared.given.Want.{Want};
 ghost use Rattle.lb_model_grammar.specs.declared.given.ScanKind.TheVariants.{Keyword};
 ghost use Rattle.lb_model_grammar.specs.declared.given.Scanned.TheVariants.{Found};
-ghost use Rattle.lb_model_grammar.specs.ArgumentGrammar.{IsDelimited};
+ghost use Rattle.lb_model_grammar.specs.ArgumentGrammar.{ClosesAtBase, IsDelimited, IsGroup, IsUndelimited, NoneDelimited, OnlyLonger, Stops};
 ghost use Rattle.lb_model_grammar.specs.Arguments.{argument, without_braces};
 ghost use Rattle.lb_model_grammar.specs.Dimensions.{dimension, meant};
 ghost use Rattle.lb_model_grammar.specs.LengthGrammar.{IsDimension};
@@ -66,7 +66,25 @@ pub fn dimensions_read()
         → ((kind ≡ DimenTooLarge) ⊎ (kind ≡ NumberTooBig)) ⊎ ((kind ≡ NumberMissing) ⊎ (kind ≡ UnitMissing)) }
 {}
 
+/// A delimited argument is the shortest balanced list that its delimiter follows, without its braces where it is wholly one group. Where
+/// there is no such list, a closing brace stands behind a balanced list, or the text or a paragraph ends. Where it would have over a million
+/// tokens it is too long.
 pub fn delimited_arguments_read()
-    ensures { (long : Bool) (d : Tok) (delimiter arg : List Tok) (given rest : List Given) → argument long (d ∷ delimiter) given ≡ Ended arg rest
+    ensures read { (long : Bool) (d : Tok) (delimiter arg : List Tok) (given rest : List Given) → argument long (d ∷ delimiter) given ≡ Ended arg rest
         → (body : List Tok) × (arg ≡ without_braces body) × IsDelimited long (d ∷ delimiter) given body rest }
+    ensures none { (long : Bool) (d : Tok) (delimiter : List Tok) (given : List Given) (kind : Kind) → argument long (d ∷ delimiter) given ≡ Wrong kind
+        → (kind ≡ DepthLimit → ⊥) → NoneDelimited long (d ∷ delimiter) given }
+    ensures mismatch { (long : Bool) (d : Tok) (delimiter : List Tok) (given : List Given) → argument long (d ∷ delimiter) given ≡ Wrong UseMismatch
+        → ClosesAtBase given }
+    ensures runaway { (long : Bool) (d : Tok) (delimiter : List Tok) (given : List Given) → argument long (d ∷ delimiter) given ≡ Wrong Runaway
+        → Stops long given }
+    ensures too_long { (long : Bool) (d : Tok) (delimiter : List Tok) (given : List Given) → argument long (d ∷ delimiter) given ≡ Wrong DepthLimit
+        → OnlyLonger long (d ∷ delimiter) given 1000000 }
+    ensures braces_go { (body inner : List Tok) → IsGroup body inner → without_braces body ≡ inner }
+    ensures braces_stay { (body : List Tok) → ((inner : List Tok) → IsGroup body inner → ⊥) → without_braces body ≡ body }
+{}
+
+/// An argument without a delimiter is one token, or one group without its braces, behind spaces.
+pub fn undelimited_arguments_read()
+    ensures { (long : Bool) (given rest : List Given) (arg : List Tok) → argument long [] given ≡ Ended arg rest → IsUndelimited long given arg rest }
 {}
