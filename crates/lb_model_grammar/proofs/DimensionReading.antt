@@ -90,10 +90,13 @@ nothing-more x given = record { read = []; parts = refl; is = nothing_more; long
 abbrev by_itself_uses : Uses
 by_itself_uses = record { units = units; found = λ order v rest. Ended (scanned.Dimen v) rest; alone = dimension_alone; missing = Wrong }
 
+abbrev units_alone : Bool → ℕ → ℕ → List Given → Worth Scanned → Type 0
+units_alone n whole fraction = OneOf (InUnit found_alone n whole fraction) units
+
 nothing-has : (x : Scanned) → Has (Nothing (Value x))
 nothing-has x = record { some = []; worth = Value x; is = nothing_more }
 
-dimension-behind : Behind by_itself_uses found_alone dimen_alone
+dimension-behind : Behind by_itself_uses units_alone found_alone dimen_alone
 dimension-behind = record {
   found_reads = λ order v given. nothing-more (scanned.Dimen v) given;
   found_has = λ order v. nothing-has (scanned.Dimen v);
@@ -111,7 +114,7 @@ dimension-behind = record {
   alone_reads n (quantity.Skip q) given = none (inl refl) (λ more all behind w e r. r)
 
 pub dimension-reads : (given : List Given) → ReadsOr (Lacks by_itself_uses) IsDimension given (dimension given)
-dimension-reads given = length-reads by_itself_uses found_alone dimen_alone dimension-behind false given
+dimension-reads given = length-reads by_itself_uses units_alone found_alone dimen_alone dimension-behind false given
 
 -- ---- By what the list means
 
@@ -174,27 +177,30 @@ one-of-all : (P : Worth Scanned → Type 0) (K : Unit_of → List Given → Wort
 one-of-all P K k _ all w (here {u = u} r) = letters-all P (K u.1) (k u.1) u.0 all w r
 one-of-all P K k _ all w (there {table = table} r) = one-of-all P K k table all w r
 
-unit-all : (P : Worth Scanned → Type 0) → P (TooLarge DimenTooLarge) → (table : List (List ℕ × Unit_of)) (found : Order → ℤ → List Given → Worth Scanned → Type 0)
+unit-all : (P : Worth Scanned → Type 0) → P (TooLarge DimenTooLarge) → (table : Bool → ℕ → ℕ → List Given → Worth Scanned → Type 0) (found : Order → ℤ → List Given → Worth Scanned → Type 0)
     → ((order : Order) (v : ℤ) (all : List Given) (w : Worth Scanned) → found order v all w → P w)
+    → ((n : Bool) (whole fraction : ℕ) (all : List Given) (w : Worth Scanned) → table n whole fraction all w → P w)
     → (n : Bool) (whole fraction : ℕ) (all : List Given) (w : Worth Scanned) → UnitOf table found n whole fraction all w → P w
-unit-all P p table found f n whole fraction _ w (unit_blank {given = all} h r) = unit-all P p table found f n whole fraction all w r
-unit-all P p table found f n whole fraction _ w (unit_internal h (dimen {v = v} {given = all} r)) =
+unit-all P p table found f k n whole fraction _ w (unit_blank {given = all} h r) = unit-all P p table found f k n whole fraction all w r
+unit-all P p table found f k n whole fraction _ w (unit_internal h (dimen {v = v} {given = all} r)) =
     sized-all P p found f (xor n (is_negative v)) Finite (times whole fraction (nat_abs v)) all w r
-unit-all P p table found f n whole fraction _ w (unit_letters {t = t} {given = all} h r) =
-    one-of-all P (InUnit found n whole fraction) (in-unit-all P p found f n whole fraction) table (AToken t ∷ all) w r
+unit-all P p table found f k n whole fraction _ w (unit_letters {t = t} {given = all} h r) =
+    k n whole fraction (AToken t ∷ all) w r
 
-fraction-all : (P : Worth Scanned → Type 0) → P (TooLarge DimenTooLarge) → (table : List (List ℕ × Unit_of)) (found : Order → ℤ → List Given → Worth Scanned → Type 0)
+fraction-all : (P : Worth Scanned → Type 0) → P (TooLarge DimenTooLarge) → (table : Bool → ℕ → ℕ → List Given → Worth Scanned → Type 0) (found : Order → ℤ → List Given → Worth Scanned → Type 0)
     → ((order : Order) (v : ℤ) (all : List Given) (w : Worth Scanned) → found order v all w → P w)
+    → ((n : Bool) (whole fraction : ℕ) (all : List Given) (w : Worth Scanned) → table n whole fraction all w → P w)
     → (n : Bool) (whole : ℕ) (ds : List ℕ) (all : List Given) (w : Worth Scanned) → Fraction table found n whole ds all w → P w
-fraction-all P p table found f n whole ds _ w (fraction_digit {d = d} {given = all} h r) = fraction-all P p table found f n whole (ds ++ d ∷ []) all w r
-fraction-all P p table found f n whole ds all w (fraction_unit h r) = unit-all P p table found f n whole (fraction_from_digits (take 17 ds)) all w r
+fraction-all P p table found f k n whole ds _ w (fraction_digit {d = d} {given = all} h r) = fraction-all P p table found f k n whole (ds ++ d ∷ []) all w r
+fraction-all P p table found f k n whole ds all w (fraction_unit h r) = unit-all P p table found f k n whole (fraction_from_digits (take 17 ds)) all w r
 
-whole-all : (P : Worth Scanned → Type 0) → P (TooLarge DimenTooLarge) → P (TooLarge NumberTooBig) → (table : List (List ℕ × Unit_of)) (found : Order → ℤ → List Given → Worth Scanned → Type 0)
+whole-all : (P : Worth Scanned → Type 0) → P (TooLarge DimenTooLarge) → P (TooLarge NumberTooBig) → (table : Bool → ℕ → ℕ → List Given → Worth Scanned → Type 0) (found : Order → ℤ → List Given → Worth Scanned → Type 0)
     → ((order : Order) (v : ℤ) (all : List Given) (w : Worth Scanned) → found order v all w → P w)
+    → ((n : Bool) (whole fraction : ℕ) (all : List Given) (w : Worth Scanned) → table n whole fraction all w → P w)
     → (n : Bool) (whole : ℕ) (all : List Given) (w : Worth Scanned) → BehindWhole table found n whole all w → P w
-whole-all P p q table found f n whole _ w (whole_small h d (a_point {given = all} e r)) = fraction-all P p table found f n whole [] all w r
-whole-all P p q table found f n whole _ w (whole_small h d (no_point {t = t} {given = all} e r)) = unit-all P p table found f n whole 0 (AToken t ∷ all) w r
-whole-all P p q table found f n whole _ _ (whole_large h) = q
+whole-all P p q table found f k n whole _ w (whole_small h d (a_point {given = all} e r)) = fraction-all P p table found f k n whole [] all w r
+whole-all P p q table found f k n whole _ w (whole_small h d (no_point {t = t} {given = all} e r)) = unit-all P p table found f k n whole 0 (AToken t ∷ all) w r
+whole-all P p q table found f k n whole _ _ (whole_large h) = q
 
 digits-all : (P : Worth Scanned → Type 0) (K : ℕ → List Given → Worth Scanned → Type 0) → ((v : ℕ) (all : List Given) (w : Worth Scanned) → K v all w → P w)
     → (v : ℕ) (all : List Given) (w : Worth Scanned) → Digits 10 K v all w → P w
@@ -202,18 +208,19 @@ digits-all P K k v all w (last r) = k v all w r
 digits-all P K k v _ w (digit {d = d} {given = all} h r) = digits-all P K k (10 * v + d) all w r
 
 -- what holds of all that stands behind a dimension, and of what is too large, holds of it
-pub length-all : (P : Worth Scanned → Type 0) → P (TooLarge DimenTooLarge) → P (TooLarge NumberTooBig) → (table : List (List ℕ × Unit_of))
+pub length-all : (P : Worth Scanned → Type 0) → P (TooLarge DimenTooLarge) → P (TooLarge NumberTooBig) → (table : Bool → ℕ → ℕ → List Given → Worth Scanned → Type 0)
     → (found : Order → ℤ → List Given → Worth Scanned → Type 0) (alone : Bool → Quantity → List Given → Worth Scanned → Type 0)
     → ((order : Order) (v : ℤ) (all : List Given) (w : Worth Scanned) → found order v all w → P w)
+    → ((n : Bool) (whole fraction : ℕ) (all : List Given) (w : Worth Scanned) → table n whole fraction all w → P w)
     → ((n : Bool) (q : Quantity) (all : List Given) (w : Worth Scanned) → alone n q all w → P w)
     → (n : Bool) (all : List Given) (w : Worth Scanned) → IsLength table found alone n all w → P w
-length-all P p q table found alone f a n _ w (blank {given = all} h r) = length-all P p q table found alone f a n all w r
-length-all P p q table found alone f a n _ w (plus {given = all} h r) = length-all P p q table found alone f a n all w r
-length-all P p q table found alone f a n _ w (minus {given = all} h r) = length-all P p q table found alone f a (not n) all w r
-length-all P p q table found alone f a n _ w (decimal {d = d} {given = all} h r) =
-    digits-all P (BehindWhole table found n) (whole-all P p q table found f n) d all w r
-length-all P p q table found alone f a n _ w (point_first {given = all} h r) = fraction-all P p table found f n 0 [] all w r
-length-all P p q table found alone f a n _ w (an_internal h (by_itself {q = y} {given = all} r)) = a n y all w r
+length-all P p q table found alone f k a n _ w (blank {given = all} h r) = length-all P p q table found alone f k a n all w r
+length-all P p q table found alone f k a n _ w (plus {given = all} h r) = length-all P p q table found alone f k a n all w r
+length-all P p q table found alone f k a n _ w (minus {given = all} h r) = length-all P p q table found alone f k a (not n) all w r
+length-all P p q table found alone f k a n _ w (decimal {d = d} {given = all} h r) =
+    digits-all P (BehindWhole table found n) (whole-all P p q table found f k n) d all w r
+length-all P p q table found alone f k a n _ w (point_first {given = all} h r) = fraction-all P p table found f k n 0 [] all w r
+length-all P p q table found alone f k a n _ w (an_internal h (by_itself {q = y} {given = all} r)) = a n y all w r
 
 -- what is too large is a size or a whole part
 abbrev IsFine : Worth Scanned → Type 0
@@ -221,7 +228,8 @@ IsFine (Value x) = Unit {0}
 IsFine (TooLarge kind) = (kind ≡ DimenTooLarge) ⊎ (kind ≡ NumberTooBig)
 
 dimension-fine : (all : List Given) (w : Worth Scanned) → IsDimension all w → IsFine w
-dimension-fine all w r = length-all IsFine (inl refl) (inr refl) units found_alone dimen_alone found_fine alone_fine false all w r where
+dimension-fine all w r = length-all IsFine (inl refl) (inr refl) units_alone found_alone dimen_alone found_fine
+    (λ n whole fraction. one-of-all IsFine (InUnit found_alone n whole fraction) (in-unit-all IsFine (inl refl) found_alone found_fine n whole fraction) units) alone_fine false all w r where
   found_fine : (order : Order) (v : ℤ) (all : List Given) (w : Worth Scanned) → found_alone order v all w → IsFine w
   found_fine order v _ _ nothing_more = tt
   alone_fine : (n : Bool) (q : Quantity) (all : List Given) (w : Worth Scanned) → dimen_alone n q all w → IsFine w

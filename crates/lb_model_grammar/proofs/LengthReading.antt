@@ -51,16 +51,16 @@ abbrev pub Lacks : Uses → Meant Scanned → Type 0
 Lacks u m = (m ≡ u.missing NumberMissing) ⊎ (m ≡ u.missing UnitMissing)
 
 -- what stands behind a dimension is read
-pub record Behind (u : Uses) (found : Order → ℤ → List Given → Worth Scanned → Type 0) (alone : Bool → Quantity → List Given → Worth Scanned → Type 0) : Type 0 where
+pub record Behind (u : Uses) (table : Bool → ℕ → ℕ → List Given → Worth Scanned → Type 0) (found : Order → ℤ → List Given → Worth Scanned → Type 0) (alone : Bool → Quantity → List Given → Worth Scanned → Type 0) : Type 0 where
   pub found_reads : (order : Order) (v : ℤ) (given : List Given) → Reads (found order v) given (u.found order v given)
   pub found_has : (order : Order) (v : ℤ) → Has (found order v)
   pub alone_reads : (n : Bool) (q : Quantity) (given : List Given) → ReadsOr (Lacks u) (alone n q) given (u.alone n q given)
   pub alone_has : (n : Bool) → Has (alone n (quantity.Dimen (pos 0)))
   pub units_read : (n : Bool) (whole fraction : ℕ) (given : List Given)
-      → ReadsOr (Lacks u) (OneOf (InUnit found n whole fraction) u.units) given (one_of u.units (in_unit u n whole fraction) (u.missing UnitMissing) given)
-  pub units_filled : (n : Bool) (whole fraction : ℕ) (w : Worth Scanned) → OneOf (InUnit found n whole fraction) u.units [] w → ⊥
+      → ReadsOr (Lacks u) (table n whole fraction) given (one_of u.units (in_unit u n whole fraction) (u.missing UnitMissing) given)
+  pub units_filled : (n : Bool) (whole fraction : ℕ) (w : Worth Scanned) → table n whole fraction [] w → ⊥
   -- one of the units begins with a letter p
-  pub unit_rest : (n : Bool) (whole fraction : ℕ) → Has (λ all w. OneOf (InUnit found n whole fraction) u.units (AToken (Char category.Letter 112) ∷ all) w)
+  pub unit_rest : (n : Bool) (whole fraction : ℕ) → Has (λ all w. table n whole fraction (AToken (Char category.Letter 112) ∷ all) w)
 
 -- ---- One space
 

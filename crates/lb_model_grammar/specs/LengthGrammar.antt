@@ -65,14 +65,14 @@ begins_unit Space = false
 begins_unit Command = false
 begins_unit class = true
 
--- the unit behind a decimal: its letters, or a control sequence, behind spaces
-pub data UnitOf (table : List (List ℕ × Unit_of)) (found : Order → ℤ → List Given → Worth Scanned → Type 0) (negative : Bool) (whole fraction : ℕ) : List Given → Worth Scanned → Type 0 where
-  blank : {t : Tok} {given : List Given} {w : Worth Scanned} → class_of t ≡ Space → UnitOf table found negative whole fraction given w
-      → UnitOf table found negative whole fraction (AToken t ∷ given) w
+-- the unit behind a decimal, as its value takes it: its letters, or a control sequence, behind spaces
+pub data UnitOf (in_units : Bool → ℕ → ℕ → List Given → Worth Scanned → Type 0) (found : Order → ℤ → List Given → Worth Scanned → Type 0) (negative : Bool) (whole fraction : ℕ) : List Given → Worth Scanned → Type 0 where
+  blank : {t : Tok} {given : List Given} {w : Worth Scanned} → class_of t ≡ Space → UnitOf in_units found negative whole fraction given w
+      → UnitOf in_units found negative whole fraction (AToken t ∷ given) w
   internal : {t : Tok} {given : List Given} {w : Worth Scanned} → class_of t ≡ Command → InternalUnit found negative whole fraction given w
-      → UnitOf table found negative whole fraction (AToken t ∷ given) w
+      → UnitOf in_units found negative whole fraction (AToken t ∷ given) w
   letters : {t : Tok} {given : List Given} {w : Worth Scanned} → begins_unit (class_of t) ≡ true
-      → OneOf (InUnit found negative whole fraction) table (AToken t ∷ given) w → UnitOf table found negative whole fraction (AToken t ∷ given) w
+      → in_units negative whole fraction (AToken t ∷ given) w → UnitOf in_units found negative whole fraction (AToken t ∷ given) w
 
 -- whether a digit stands first
 abbrev pub begins_digit : List Given → Bool
@@ -80,37 +80,37 @@ begins_digit (AToken t ∷ given) = if_digit (digit_of 10 t) (λ d. true) false
 begins_digit given = false
 
 -- digits behind a point, of which the first 17 count, and the unit
-pub data Fraction (table : List (List ℕ × Unit_of)) (found : Order → ℤ → List Given → Worth Scanned → Type 0) (negative : Bool) (whole : ℕ) : List ℕ → List Given → Worth Scanned → Type 0 where
+pub data Fraction (in_units : Bool → ℕ → ℕ → List Given → Worth Scanned → Type 0) (found : Order → ℤ → List Given → Worth Scanned → Type 0) (negative : Bool) (whole : ℕ) : List ℕ → List Given → Worth Scanned → Type 0 where
   digit : {d : ℕ} {digits : List ℕ} {t : Tok} {given : List Given} {w : Worth Scanned} → digit_of 10 t ≡ Some d
-      → Fraction table found negative whole (digits ++ d ∷ []) given w → Fraction table found negative whole digits (AToken t ∷ given) w
+      → Fraction in_units found negative whole (digits ++ d ∷ []) given w → Fraction in_units found negative whole digits (AToken t ∷ given) w
   unit : {digits : List ℕ} {given : List Given} {w : Worth Scanned} → begins_digit given ≡ false
-      → UnitOf table found negative whole (fraction_from_digits (take 17 digits)) given w → Fraction table found negative whole digits given w
+      → UnitOf in_units found negative whole (fraction_from_digits (take 17 digits)) given w → Fraction in_units found negative whole digits given w
 
 -- behind the whole part of a decimal a point and digits, or the unit
-pub data PointOrUnit (table : List (List ℕ × Unit_of)) (found : Order → ℤ → List Given → Worth Scanned → Type 0) (negative : Bool) (whole : ℕ) : List Given → Worth Scanned → Type 0 where
-  point : {t : Tok} {given : List Given} {w : Worth Scanned} → is_other 46 t ≡ true → Fraction table found negative whole [] given w
-      → PointOrUnit table found negative whole (AToken t ∷ given) w
-  unit : {t : Tok} {given : List Given} {w : Worth Scanned} → is_other 46 t ≡ false → UnitOf table found negative whole 0 (AToken t ∷ given) w
-      → PointOrUnit table found negative whole (AToken t ∷ given) w
+pub data PointOrUnit (in_units : Bool → ℕ → ℕ → List Given → Worth Scanned → Type 0) (found : Order → ℤ → List Given → Worth Scanned → Type 0) (negative : Bool) (whole : ℕ) : List Given → Worth Scanned → Type 0 where
+  point : {t : Tok} {given : List Given} {w : Worth Scanned} → is_other 46 t ≡ true → Fraction in_units found negative whole [] given w
+      → PointOrUnit in_units found negative whole (AToken t ∷ given) w
+  unit : {t : Tok} {given : List Given} {w : Worth Scanned} → is_other 46 t ≡ false → UnitOf in_units found negative whole 0 (AToken t ∷ given) w
+      → PointOrUnit in_units found negative whole (AToken t ∷ given) w
 
 -- a whole part reaches 2147483647. No digit stands behind its last one
-pub data BehindWhole (table : List (List ℕ × Unit_of)) (found : Order → ℤ → List Given → Worth Scanned → Type 0) (negative : Bool) (whole : ℕ) : List Given → Worth Scanned → Type 0 where
-  small : {given : List Given} {w : Worth Scanned} → nat_lt whole 2147483648 ≡ true → begins_digit given ≡ false → PointOrUnit table found negative whole given w
-      → BehindWhole table found negative whole given w
-  large : nat_lt whole 2147483648 ≡ false → BehindWhole table found negative whole [] (TooLarge NumberTooBig)
+pub data BehindWhole (in_units : Bool → ℕ → ℕ → List Given → Worth Scanned → Type 0) (found : Order → ℤ → List Given → Worth Scanned → Type 0) (negative : Bool) (whole : ℕ) : List Given → Worth Scanned → Type 0 where
+  small : {given : List Given} {w : Worth Scanned} → nat_lt whole 2147483648 ≡ true → begins_digit given ≡ false → PointOrUnit in_units found negative whole given w
+      → BehindWhole in_units found negative whole given w
+  large : nat_lt whole 2147483648 ≡ false → BehindWhole in_units found negative whole [] (TooLarge NumberTooBig)
 
 -- an internal quantity by itself, and what may stand behind it
 pub data Alone (alone : Bool → Quantity → List Given → Worth Scanned → Type 0) (negative : Bool) : List Given → Worth Scanned → Type 0 where
   by_itself : {q : Quantity} {given : List Given} {w : Worth Scanned} → alone negative q given w → Alone alone negative (AQuantity q ∷ given) w
 
 -- a dimension in these units, where an odd number of minus signs stands before it or not
-pub data IsLength (table : List (List ℕ × Unit_of)) (found : Order → ℤ → List Given → Worth Scanned → Type 0) (alone : Bool → Quantity → List Given → Worth Scanned → Type 0) : Bool → List Given → Worth Scanned → Type 0 where
-  blank : {n : Bool} {t : Tok} {given : List Given} {w : Worth Scanned} → class_of t ≡ Space → IsLength table found alone n given w → IsLength table found alone n (AToken t ∷ given) w
-  plus : {n : Bool} {t : Tok} {given : List Given} {w : Worth Scanned} → class_of t ≡ Plus → IsLength table found alone n given w → IsLength table found alone n (AToken t ∷ given) w
-  minus : {n : Bool} {t : Tok} {given : List Given} {w : Worth Scanned} → class_of t ≡ Minus → IsLength table found alone (not n) given w → IsLength table found alone n (AToken t ∷ given) w
-  decimal : {n : Bool} {d : ℕ} {t : Tok} {given : List Given} {w : Worth Scanned} → class_of t ≡ Digit d → Digits 10 (BehindWhole table found n) d given w → IsLength table found alone n (AToken t ∷ given) w
-  fraction : {n : Bool} {t : Tok} {given : List Given} {w : Worth Scanned} → class_of t ≡ Point → Fraction table found n 0 [] given w → IsLength table found alone n (AToken t ∷ given) w
-  internal : {n : Bool} {t : Tok} {given : List Given} {w : Worth Scanned} → class_of t ≡ Command → Alone alone n given w → IsLength table found alone n (AToken t ∷ given) w
+pub data IsLength (in_units : Bool → ℕ → ℕ → List Given → Worth Scanned → Type 0) (found : Order → ℤ → List Given → Worth Scanned → Type 0) (alone : Bool → Quantity → List Given → Worth Scanned → Type 0) : Bool → List Given → Worth Scanned → Type 0 where
+  blank : {n : Bool} {t : Tok} {given : List Given} {w : Worth Scanned} → class_of t ≡ Space → IsLength in_units found alone n given w → IsLength in_units found alone n (AToken t ∷ given) w
+  plus : {n : Bool} {t : Tok} {given : List Given} {w : Worth Scanned} → class_of t ≡ Plus → IsLength in_units found alone n given w → IsLength in_units found alone n (AToken t ∷ given) w
+  minus : {n : Bool} {t : Tok} {given : List Given} {w : Worth Scanned} → class_of t ≡ Minus → IsLength in_units found alone (not n) given w → IsLength in_units found alone n (AToken t ∷ given) w
+  decimal : {n : Bool} {d : ℕ} {t : Tok} {given : List Given} {w : Worth Scanned} → class_of t ≡ Digit d → Digits 10 (BehindWhole in_units found n) d given w → IsLength in_units found alone n (AToken t ∷ given) w
+  fraction : {n : Bool} {t : Tok} {given : List Given} {w : Worth Scanned} → class_of t ≡ Point → Fraction in_units found n 0 [] given w → IsLength in_units found alone n (AToken t ∷ given) w
+  internal : {n : Bool} {t : Tok} {given : List Given} {w : Worth Scanned} → class_of t ≡ Command → Alone alone n given w → IsLength in_units found alone n (AToken t ∷ given) w
 
 -- ---- A dimension by itself
 
@@ -122,4 +122,4 @@ dimen_alone negative (quantity.Dimen v) = Nothing (Value (scanned.Dimen (signed 
 dimen_alone negative q = λ all w. ⊥
 
 abbrev pub IsDimension : List Given → Worth Scanned → Type 0
-IsDimension = IsLength units found_alone dimen_alone false
+IsDimension = IsLength (λ n whole fraction. OneOf (InUnit found_alone n whole fraction) units) found_alone dimen_alone false
