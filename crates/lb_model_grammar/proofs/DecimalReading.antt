@@ -384,3 +384,9 @@ length-reads u table found alone b n (AQuantity q ∷ given) =
     none (inl refl) (nothing-begins (IsLength table found alone n) (AQuantity q) given (length-not-empty table found alone n) (λ all w r. elim r [ ]))
 length-reads u table found alone b n (End ∷ given) =
     none (inl refl) (nothing-begins (IsLength table found alone n) End given (length-not-empty table found alone n) (λ all w r. elim r [ ]))
+
+pub length-has : (u : Uses) (table : Bool → ℕ → ℕ → List Given → Worth Scanned → Type 0) (found : Order → ℤ → List Given → Worth Scanned → Type 0) (alone : Bool → Quantity → List Given → Worth Scanned → Type 0) → Behind u table found alone
+    → (n : Bool) → Has (IsLength table found alone n)
+length-has u table found alone b n =
+    let h = b.unit_rest n 0 0 in
+    record { some = AToken (Char category.Other 48) ∷ AToken (Char category.Letter 112) ∷ h.some; worth = h.worth; is = decimal {d = 0} refl (last (whole_small refl refl (no_point refl (unit_letters refl h.is)))) }

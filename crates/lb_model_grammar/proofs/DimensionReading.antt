@@ -93,7 +93,7 @@ by_itself_uses = record { units = units; found = λ order v rest. Ended (scanned
 abbrev units_alone : Bool → ℕ → ℕ → List Given → Worth Scanned → Type 0
 units_alone n whole fraction = OneOf (InUnit found_alone n whole fraction) units
 
-nothing-has : (x : Scanned) → Has (Nothing (Value x))
+pub nothing-has : (x : Scanned) → Has (Nothing (Value x))
 nothing-has x = record { some = []; worth = Value x; is = nothing_more }
 
 dimension-behind : Behind by_itself_uses units_alone found_alone dimen_alone

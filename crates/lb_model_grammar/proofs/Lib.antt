@@ -1,7 +1,10 @@
 pub mod ArgumentReading
 pub mod DecimalReading
 pub mod DimensionReading
+pub mod FilReading
+pub mod GlueReading
 pub mod GroupReading
+pub mod KeywordPlaces
 pub mod LengthReading
 pub mod NumberReading
 pub mod ReadingSteps

@@ -26,23 +26,23 @@ use Rattle.lb_model_grammar.proofs.WordReading.{behind-letter, letters-spelled, 
 -- ---- How a list stands to a word
 
 -- its letters stand first, and this behind them
-data Front : List ℕ → List Given → List Given → Type 0 where
+pub data Front : List ℕ → List Given → List Given → Type 0 where
   done : {given : List Given} → Front [] given given
   also : {c : ℕ} {word : List ℕ} {t : Tok} {given rest : List Given} → is_letter c t ≡ true → Front word given rest → Front (c ∷ word) (AToken t ∷ given) rest
 
 -- all of the list are its letters, and these are left
-data Left : List ℕ → List Given → List ℕ → Type 0 where
+pub data Left : List ℕ → List Given → List ℕ → Type 0 where
   all_left : {word : List ℕ} → Left word [] word
   also : {c : ℕ} {word left : List ℕ} {t : Tok} {given : List Given} → is_letter c t ≡ true → Left word given left → Left (c ∷ word) (AToken t ∷ given) left
 
 -- another thing stands in place of a letter
-data Differs : List ℕ → List Given → Type 0 where
+pub data Differs : List ℕ → List Given → Type 0 where
   token : {c : ℕ} {word : List ℕ} {t : Tok} {given : List Given} → is_letter c t ≡ false → Differs (c ∷ word) (AToken t ∷ given)
   quantity : {c : ℕ} {word : List ℕ} {q : Quantities} {given : List Given} → Differs (c ∷ word) (AQuantity q ∷ given)
   end : {c : ℕ} {word : List ℕ} {given : List Given} → Differs (c ∷ word) (End ∷ given)
   also : {c : ℕ} {word : List ℕ} {t : Tok} {given : List Given} → is_letter c t ≡ true → Differs word given → Differs (c ∷ word) (AToken t ∷ given)
 
-data Fate (word : List ℕ) (given : List Given) : Type 0 where
+pub data Fate (word : List ℕ) (given : List Given) : Type 0 where
   short : (c : ℕ) (left : List ℕ) → Left word given (c ∷ left)
       → ((f : List Given → Meant Scanned) (m : Meant Scanned) → letters word f m given ≡ Open want.Expanded) → Fate word given
   whole : (rest : List Given) → Front word given rest → ((f : List Given → Meant Scanned) (m : Meant Scanned) → letters word f m given ≡ f rest) → Fate word given
@@ -57,19 +57,19 @@ fate-at : (c : ℕ) (word : List ℕ) (t : Tok) (given : List Given) → Fate wo
 fate-at c word t given l true e = fate-also c word t given e l
 fate-at c word t given l false e = differs (token e) (λ f m. ap (λ (b : Bool). if b then letters word f m given else m) e)
 
-fate : (word : List ℕ) (given : List Given) → Fate word given
+pub fate : (word : List ℕ) (given : List Given) → Fate word given
 fate [] given = whole given done (λ f m. refl)
 fate (c ∷ word) [] = short c word all_left (λ f m. refl)
 fate (c ∷ word) (AToken t ∷ given) = fate-at c word t given (fate word given) (is_letter c t) refl
 fate (c ∷ word) (AQuantity q ∷ given) = differs quantity (λ f m. refl)
 fate (c ∷ word) (End ∷ given) = differs end (λ f m. refl)
 
-goes-on : (K : List Given → Worth Scanned → Type 0) (some : List Given) (worth : Worth Scanned) → K some worth → (word : List ℕ) (given : List Given) (c : ℕ) (left : List ℕ)
+pub goes-on : (K : List Given → Worth Scanned → Type 0) (some : List Given) (worth : Worth Scanned) → K some worth → (word : List ℕ) (given : List Given) (c : ℕ) (left : List ℕ)
     → Left word given (c ∷ left) → Letters K word (given ++ AToken (Char category.Letter c) ∷ spelled left some) worth
 goes-on K some worth k _ _ c left all_left = letters-spelled K (c ∷ left) some worth k
 goes-on K some worth k _ _ c left (also {word = word} {given = given} e l) = letter e (goes-on K some worth k word given c left l)
 
-front-reads : (F : Meant Scanned → Type 0) (K : List Given → Worth Scanned → Type 0) (m : Meant Scanned) (word : List ℕ) (given rest : List Given)
+pub front-reads : (F : Meant Scanned → Type 0) (K : List Given → Worth Scanned → Type 0) (m : Meant Scanned) (word : List ℕ) (given rest : List Given)
     → Front word given rest → ReadsOr F K rest m → ReadsOr F (Letters K word) given m
 front-reads F K m _ given _ done r = reads-or-equal (none-left K) given m r
 front-reads F K m _ _ rest (also {c = c} {word = word} {t = t} {given = given} e l) r =
@@ -122,14 +122,14 @@ apart-at : (c d : ℕ) (word other : List ℕ) (t : Tok) (given : List Given) �
 apart-at c d word other t given h ih true q e = also (two-letters c d t true q h) (ih e)
 apart-at c d word other t given h ih false q e = token (two-letters c d t false q h)
 
-apart-differs : (K : List Given → Worth Scanned → Type 0) (word other : List ℕ) (given : List Given) (w : Worth Scanned) → apart word other ≡ true
+pub apart-differs : (K : List Given → Worth Scanned → Type 0) (word other : List ℕ) (given : List Given) (w : Worth Scanned) → apart word other ≡ true
     → Letters K other given w → Differs word given
 apart-differs K [] other given w e l = cc
 apart-differs K (c ∷ word) _ given w e (ended k) = cc
 apart-differs K (c ∷ word) _ _ w e (letter {c = d} {word = other} {t = t} {given = given} h l) =
     apart-at c d word other t given h (λ a. apart-differs K word other given w a l) (lower c == lower d) refl e
 
-table-differs : (K : Unit_of → List Given → Worth Scanned → Type 0) (word : List ℕ) (table : List (List ℕ × Unit_of)) (given : List Given) (w : Worth Scanned)
+pub table-differs : (K : Unit_of → List Given → Worth Scanned → Type 0) (word : List ℕ) (table : List (List ℕ × Unit_of)) (given : List Given) (w : Worth Scanned)
     → apart_from word table ≡ true → OneOf K table given w → Differs word given
 table-differs K word (u ∷ table) given w e (here l) = apart-differs (K u.1) word u.0 given w (both (apart word u.0) (apart_from word table) e).0 l
 table-differs K word (u ∷ table) given w e (there o) = table-differs K word table given w (both (apart word u.0) (apart_from word table) e).1 o
@@ -137,7 +137,7 @@ table-differs K word [] given w e o = elim o [ ]
 
 -- ---- Lists that begin alike
 
-front-differs : (word : List ℕ) (given rest all more behind : List Given) → Front word given rest → Differs word all → given ++ more ≡ all ++ behind → ⊥
+pub front-differs : (word : List ℕ) (given rest all more behind : List Given) → Front word given rest → Differs word all → given ++ more ≡ all ++ behind → ⊥
 front-differs _ _ _ all more behind done d q = elim d [ ]
 front-differs _ _ rest all more behind (also {t = t} {given = given} e l) (token {t = s} {given = one} h) q =
     let same : AToken t ≡ AToken s = cc in cc
@@ -147,7 +147,7 @@ front-differs _ _ rest all more behind (also {word = word} {t = t} {given = give
     let tail : given ++ more ≡ one ++ behind = cc in
     front-differs word given rest one more behind l d tail
 
-letters-differs : (K : List Given → Worth Scanned → Type 0) (word : List ℕ) (given all more behind : List Given) (w : Worth Scanned) → Differs word given
+pub letters-differs : (K : List Given → Worth Scanned → Type 0) (word : List ℕ) (given all more behind : List Given) (w : Worth Scanned) → Differs word given
     → Letters K word all w → given ++ more ≡ all ++ behind → ⊥
 letters-differs K _ _ _ more behind w (token {t = s} {given = one} h) (letter {t = t} {given = given} e l) q = let same : AToken t ≡ AToken s = cc in cc
 letters-differs K _ _ _ more behind w quantity (letter e l) q = cc

@@ -78,17 +78,17 @@ letters-reads F K found missing f some worth k behind (c ∷ word) (End ∷ give
 
 -- ---- A word behind spaces
 
-no-keyword : {X : Type 0} (K : List Given → Worth X → Type 0) (c : ℕ) (word : List ℕ) (w : Worth X) → Keyword K (c ∷ word) [] w → ⊥
+pub no-keyword : {X : Type 0} (K : List Given → Worth X → Type 0) (c : ℕ) (word : List ℕ) (w : Worth X) → Keyword K (c ∷ word) [] w → ⊥
 no-keyword K c word w (the_letters b l) = no-letters K c word w l
 
-behind-blank : {X : Type 0} (K : List Given → Worth X → Type 0) (word : List ℕ) (t : Tok) → is_space t ≡ true
+pub behind-blank : {X : Type 0} (K : List Given → Worth X → Type 0) (word : List ℕ) (t : Tok) → is_space t ≡ true
     → Step (Keyword K word) (Keyword K word) (AToken t)
 behind-blank {X} K word t e = record { into = λ all w r. blank e r; onto = onto } where
   onto : (all : List Given) (w : Worth X) → Keyword K word (AToken t ∷ all) w → Keyword K word all w
   onto all w (blank h r) = r
   onto all w (the_letters b l) = cc
 
-no-blank : {X : Type 0} (K : List Given → Worth X → Type 0) (word : List ℕ) (t : Tok) → is_space t ≡ false
+pub no-blank : {X : Type 0} (K : List Given → Worth X → Type 0) (word : List ℕ) (t : Tok) → is_space t ≡ false
     → Same (Keyword K word) (Letters K word) (AToken t)
 no-blank {X} K word t e = record { empty = λ w l. the_letters refl l; into = λ all w l. the_letters e l; onto = onto } where
   onto : (all : List Given) (w : Worth X) → Keyword K word (AToken t ∷ all) w → Letters K word (AToken t ∷ all) w

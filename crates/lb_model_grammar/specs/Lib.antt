@@ -2,6 +2,7 @@ pub mod ArgumentGrammar
 pub mod Arguments
 pub mod Conditionals
 pub mod Dimensions
+pub mod GlueGrammar
 pub mod LengthGrammar
 pub mod NumberGrammar
 pub mod Numbers

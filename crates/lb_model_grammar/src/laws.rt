@@ -11,7 +11,8 @@ ghost use Rattle.lb_model_grammar.specs.declared.given.ScanKind.TheVariants.{Key
 ghost use Rattle.lb_model_grammar.specs.declared.given.Scanned.TheVariants.{Found};
 ghost use Rattle.lb_model_grammar.specs.ArgumentGrammar.{ClosesAtBase, IsDelimited, IsGroup, IsUndelimited, NoneDelimited, OnlyLonger, Stops};
 ghost use Rattle.lb_model_grammar.specs.Arguments.{argument, without_braces};
-ghost use Rattle.lb_model_grammar.specs.Dimensions.{dimension, meant};
+ghost use Rattle.lb_model_grammar.specs.Dimensions.{dimension, glue, meant};
+ghost use Rattle.lb_model_grammar.specs.GlueGrammar.{IsGlue};
 ghost use Rattle.lb_model_grammar.specs.LengthGrammar.{IsDimension};
 ghost use Rattle.lb_model_grammar.specs.WordGrammar.{IsKeyword};
 ghost use Rattle.lb_model_grammar.specs.NumberGrammar.{IsNumber};
@@ -87,4 +88,8 @@ pub fn delimited_arguments_read()
 /// An argument without a delimiter is one token, or one group without its braces, behind spaces.
 pub fn undelimited_arguments_read()
     ensures { (long : Bool) (given rest : List Given) (arg : List Tok) → argument long [] given ≡ Ended arg rest → IsUndelimited long given arg rest }
+{}
+
+pub fn glue_read()
+    ensures { (given rest : List Given) (x : Scanned) → glue given ≡ Ended x rest → IsRead IsGlue given (Value x) rest }
 {}
