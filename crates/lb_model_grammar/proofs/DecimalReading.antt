@@ -54,7 +54,7 @@ unit-not-empty : (table : Bool → ℕ → ℕ → List Given → Worth Scanned 
     → UnitOf table found n whole fraction [] w → ⊥
 unit-not-empty table found n whole fraction w r = elim r [ ]
 
-unit-space : (table : Bool → ℕ → ℕ → List Given → Worth Scanned → Type 0) (found : Order → ℤ → List Given → Worth Scanned → Type 0) (n : Bool) (whole fraction : ℕ) (t : Tok) → class_of t ≡ Space
+pub unit-space : (table : Bool → ℕ → ℕ → List Given → Worth Scanned → Type 0) (found : Order → ℤ → List Given → Worth Scanned → Type 0) (n : Bool) (whole fraction : ℕ) (t : Tok) → class_of t ≡ Space
     → Step (UnitOf table found n whole fraction) (UnitOf table found n whole fraction) (AToken t)
 unit-space table found n whole fraction t e = record { into = λ all w r. unit_blank e r; onto = onto } where
   onto : (all : List Given) (w : Worth Scanned) → UnitOf table found n whole fraction (AToken t ∷ all) w → UnitOf table found n whole fraction all w
@@ -62,7 +62,7 @@ unit-space table found n whole fraction t e = record { into = λ all w r. unit_b
   onto all w (unit_internal h r) = cc
   onto all w (unit_letters h o) = let q : true ≡ false = sym h ∙ ap begins_unit e in cc
 
-unit-command : (table : Bool → ℕ → ℕ → List Given → Worth Scanned → Type 0) (found : Order → ℤ → List Given → Worth Scanned → Type 0) (n : Bool) (whole fraction : ℕ) (t : Tok) → class_of t ≡ Command
+pub unit-command : (table : Bool → ℕ → ℕ → List Given → Worth Scanned → Type 0) (found : Order → ℤ → List Given → Worth Scanned → Type 0) (n : Bool) (whole fraction : ℕ) (t : Tok) → class_of t ≡ Command
     → Step (UnitOf table found n whole fraction) (InternalUnit found n whole fraction) (AToken t)
 unit-command table found n whole fraction t e = record { into = λ all w r. unit_internal e r; onto = onto } where
   onto : (all : List Given) (w : Worth Scanned) → UnitOf table found n whole fraction (AToken t ∷ all) w → InternalUnit found n whole fraction all w
@@ -122,7 +122,7 @@ fraction-not-empty : (table : Bool → ℕ → ℕ → List Given → Worth Scan
     → Fraction table found n whole ds [] w → ⊥
 fraction-not-empty table found n whole ds w (fraction_unit h r) = elim r [ ]
 
-behind-fraction : (table : Bool → ℕ → ℕ → List Given → Worth Scanned → Type 0) (found : Order → ℤ → List Given → Worth Scanned → Type 0) (n : Bool) (whole : ℕ) (ds : List ℕ) (t : Tok) (d : ℕ) → digit_of 10 t ≡ Some d
+pub behind-fraction : (table : Bool → ℕ → ℕ → List Given → Worth Scanned → Type 0) (found : Order → ℤ → List Given → Worth Scanned → Type 0) (n : Bool) (whole : ℕ) (ds : List ℕ) (t : Tok) (d : ℕ) → digit_of 10 t ≡ Some d
     → Step (Fraction table found n whole ds) (Fraction table found n whole (ds ++ d ∷ [])) (AToken t)
 behind-fraction table found n whole ds t d e = record { into = λ all w r. fraction_digit e r; onto = onto } where
   onto : (all : List Given) (w : Worth Scanned) → Fraction table found n whole ds (AToken t ∷ all) w → Fraction table found n whole (ds ++ d ∷ []) all w
@@ -166,7 +166,7 @@ point-not-empty : (table : Bool → ℕ → ℕ → List Given → Worth Scanned
     → PointOrUnit table found n whole [] w → ⊥
 point-not-empty table found n whole w r = elim r [ ]
 
-behind-point : (table : Bool → ℕ → ℕ → List Given → Worth Scanned → Type 0) (found : Order → ℤ → List Given → Worth Scanned → Type 0) (n : Bool) (whole : ℕ) (t : Tok) → is_other 46 t ≡ true
+pub behind-point : (table : Bool → ℕ → ℕ → List Given → Worth Scanned → Type 0) (found : Order → ℤ → List Given → Worth Scanned → Type 0) (n : Bool) (whole : ℕ) (t : Tok) → is_other 46 t ≡ true
     → Step (PointOrUnit table found n whole) (Fraction table found n whole []) (AToken t)
 behind-point table found n whole t e = record { into = λ all w r. a_point e r; onto = onto } where
   onto : (all : List Given) (w : Worth Scanned) → PointOrUnit table found n whole (AToken t ∷ all) w → Fraction table found n whole [] all w
@@ -197,7 +197,7 @@ point-reads u table found alone b n whole End given =
     none (inr refl) (nothing-begins (PointOrUnit table found n whole) End given (point-not-empty table found n whole) (λ all w r. elim r [ ]))
 
 -- a decimal behind its whole part
-whole-onto : (table : Bool → ℕ → ℕ → List Given → Worth Scanned → Type 0) (found : Order → ℤ → List Given → Worth Scanned → Type 0) (n : Bool) (v : ℕ) → nat_lt v 2147483648 ≡ true
+pub whole-onto : (table : Bool → ℕ → ℕ → List Given → Worth Scanned → Type 0) (found : Order → ℤ → List Given → Worth Scanned → Type 0) (n : Bool) (v : ℕ) → nat_lt v 2147483648 ≡ true
     → (all : List Given) (w : Worth Scanned) → BehindWhole table found n v all w → PointOrUnit table found n v all w
 whole-onto table found n v e all w (whole_small h d r) = r
 whole-onto table found n v e _ w (whole_large h) = cc
@@ -249,7 +249,7 @@ large-goes-on table found n v x w le (whole_large h) =
     let l : 2147483648 ≤ v = ltb-false v 2147483648 h in
     whole_large (le-ltb x 2147483648 (omega (arith, l, le)))
 
-behind-digit : (table : Bool → ℕ → ℕ → List Given → Worth Scanned → Type 0) (found : Order → ℤ → List Given → Worth Scanned → Type 0) (n : Bool) (v d : ℕ) (t : Tok) → digit_of 10 t ≡ Some d
+pub behind-digit : (table : Bool → ℕ → ℕ → List Given → Worth Scanned → Type 0) (found : Order → ℤ → List Given → Worth Scanned → Type 0) (n : Bool) (v d : ℕ) (t : Tok) → digit_of 10 t ≡ Some d
     → Step (Digits 10 (BehindWhole table found n) v) (Digits 10 (BehindWhole table found n) (10 * v + d)) (AToken t)
 behind-digit table found n v d t e = record { into = λ all w r. digit e r; onto = onto } where
   onto : (all : List Given) (w : Worth Scanned) → Digits 10 (BehindWhole table found n) v (AToken t ∷ all) w → Digits 10 (BehindWhole table found n) (10 * v + d) all w
@@ -304,7 +304,7 @@ digits-read u table found alone b n v w a (End ∷ given) =
 
 -- ---- An internal quantity by itself
 
-behind-quantity : (alone : Bool → Quantity → List Given → Worth Scanned → Type 0) (n : Bool) (q : Quantity) → Step (Alone alone n) (alone n q) (AQuantity q)
+pub behind-quantity : (alone : Bool → Quantity → List Given → Worth Scanned → Type 0) (n : Bool) (q : Quantity) → Step (Alone alone n) (alone n q) (AQuantity q)
 behind-quantity alone n q = record { into = λ all w k. by_itself k; onto = λ all w r. elim r [ by_itself k ↦ k ] }
 
 internal-reads : (u : Uses) (table : Bool → ℕ → ℕ → List Given → Worth Scanned → Type 0) (found : Order → ℤ → List Given → Worth Scanned → Type 0) (alone : Bool → Quantity → List Given → Worth Scanned → Type 0) → Behind u table found alone
@@ -318,7 +318,7 @@ internal-reads u table found alone b n (End ∷ given) = none (inl refl) (nothin
 
 -- ---- A dimension
 
-abbrev After : (Bool → ℕ → ℕ → List Given → Worth Scanned → Type 0) → (Order → ℤ → List Given → Worth Scanned → Type 0) → (Bool → Quantity → List Given → Worth Scanned → Type 0) → Class → Bool → List Given → Worth Scanned → Type 0
+abbrev pub After : (Bool → ℕ → ℕ → List Given → Worth Scanned → Type 0) → (Order → ℤ → List Given → Worth Scanned → Type 0) → (Bool → Quantity → List Given → Worth Scanned → Type 0) → Class → Bool → List Given → Worth Scanned → Type 0
 After table found alone Space n = IsLength table found alone n
 After table found alone Plus n = IsLength table found alone n
 After table found alone Minus n = IsLength table found alone (not n)
@@ -330,7 +330,7 @@ After table found alone Hexadecimal n = λ all w. ⊥
 After table found alone Quote n = λ all w. ⊥
 After table found alone Other n = λ all w. ⊥
 
-after-of : (table : Bool → ℕ → ℕ → List Given → Worth Scanned → Type 0) (found : Order → ℤ → List Given → Worth Scanned → Type 0) (alone : Bool → Quantity → List Given → Worth Scanned → Type 0) (k : Class) (n : Bool) (t : Tok)
+pub after-of : (table : Bool → ℕ → ℕ → List Given → Worth Scanned → Type 0) (found : Order → ℤ → List Given → Worth Scanned → Type 0) (alone : Bool → Quantity → List Given → Worth Scanned → Type 0) (k : Class) (n : Bool) (t : Tok)
     → class_of t ≡ k → (all : List Given) (w : Worth Scanned) → IsLength table found alone n (AToken t ∷ all) w → After table found alone k n all w
 after-of table found alone k n t e all w (blank h r) = subst (λ (c : Class). After table found alone c n all w) (sym h ∙ e) r
 after-of table found alone k n t e all w (plus h r) = subst (λ (c : Class). After table found alone c n all w) (sym h ∙ e) r

@@ -142,12 +142,12 @@ dimension-wrong given kind e = by (dimension-reads given) where
 
 -- ---- What dimensions are worth
 
-spaced-all : (P : Worth Scanned → Type 0) (K : List Given → Worth Scanned → Type 0) → ((all : List Given) (w : Worth Scanned) → K all w → P w)
+pub spaced-all : (P : Worth Scanned → Type 0) (K : List Given → Worth Scanned → Type 0) → ((all : List Given) (w : Worth Scanned) → K all w → P w)
     → (all : List Given) (w : Worth Scanned) → Spaced K all w → P w
 spaced-all P K k all w (bare b r) = k all w r
 spaced-all P K k _ w (space {given = all} h r) = k all w r
 
-sized-all : (P : Worth Scanned → Type 0) → P (TooLarge DimenTooLarge) → (found : Order → ℤ → List Given → Worth Scanned → Type 0)
+pub sized-all : (P : Worth Scanned → Type 0) → P (TooLarge DimenTooLarge) → (found : Order → ℤ → List Given → Worth Scanned → Type 0)
     → ((order : Order) (v : ℤ) (all : List Given) (w : Worth Scanned) → found order v all w → P w)
     → (n : Bool) (order : Order) (x : ℕ) (all : List Given) (w : Worth Scanned) → Sized found n order x all w → P w
 sized-all P p found f n order x all w (small h r) = f order (signed n (pos x)) all w r
@@ -159,7 +159,7 @@ font-all : (P : Worth Scanned → Type 0) → P (TooLarge DimenTooLarge) → (fo
 font-all P p found f n whole fraction _ w (size {v = v} {given = all} r) =
     spaced-all P (Multiple found n whole fraction v) (sized-all P p found f (xor n (is_negative v)) Finite (times whole fraction (nat_abs v))) all w r
 
-in-unit-all : (P : Worth Scanned → Type 0) → P (TooLarge DimenTooLarge) → (found : Order → ℤ → List Given → Worth Scanned → Type 0)
+pub in-unit-all : (P : Worth Scanned → Type 0) → P (TooLarge DimenTooLarge) → (found : Order → ℤ → List Given → Worth Scanned → Type 0)
     → ((order : Order) (v : ℤ) (all : List Given) (w : Worth Scanned) → found order v all w → P w)
     → (n : Bool) (whole fraction : ℕ) (u : Unit_of) (all : List Given) (w : Worth Scanned) → InUnit found n whole fraction u all w → P w
 in-unit-all P p found f n whole fraction (Physical a b) all w r = spaced-all P _ (sized-all P p found f n Finite (a * (65536 * whole + fraction) / b)) all w r
@@ -167,12 +167,12 @@ in-unit-all P p found f n whole fraction Scaled all w r = spaced-all P _ (sized-
 in-unit-all P p found f n whole fraction (OfFont asked) all w r = font-all P p found f n whole fraction all w r
 in-unit-all P p found f n whole fraction (Infinite order) all w r = spaced-all P _ (sized-all P p found f n order (65536 * whole + fraction)) all w r
 
-letters-all : (P : Worth Scanned → Type 0) (K : List Given → Worth Scanned → Type 0) → ((all : List Given) (w : Worth Scanned) → K all w → P w)
+pub letters-all : (P : Worth Scanned → Type 0) (K : List Given → Worth Scanned → Type 0) → ((all : List Given) (w : Worth Scanned) → K all w → P w)
     → (word : List ℕ) (all : List Given) (w : Worth Scanned) → Letters K word all w → P w
 letters-all P K k _ all w (ended r) = k all w r
 letters-all P K k _ _ w (letter {word = word} {given = all} h r) = letters-all P K k word all w r
 
-one-of-all : (P : Worth Scanned → Type 0) (K : Unit_of → List Given → Worth Scanned → Type 0) → ((u : Unit_of) (all : List Given) (w : Worth Scanned) → K u all w → P w)
+pub one-of-all : (P : Worth Scanned → Type 0) (K : Unit_of → List Given → Worth Scanned → Type 0) → ((u : Unit_of) (all : List Given) (w : Worth Scanned) → K u all w → P w)
     → (table : List (List ℕ × Unit_of)) (all : List Given) (w : Worth Scanned) → OneOf K table all w → P w
 one-of-all P K k _ all w (here {u = u} r) = letters-all P (K u.1) (k u.1) u.0 all w r
 one-of-all P K k _ all w (there {table = table} r) = one-of-all P K k table all w r
@@ -223,7 +223,7 @@ length-all P p q table found alone f k a n _ w (point_first {given = all} h r) =
 length-all P p q table found alone f k a n _ w (an_internal h (by_itself {q = y} {given = all} r)) = a n y all w r
 
 -- what is too large is a size or a whole part
-abbrev IsFine : Worth Scanned → Type 0
+abbrev pub IsFine : Worth Scanned → Type 0
 IsFine (Value x) = Unit {0}
 IsFine (TooLarge kind) = (kind ≡ DimenTooLarge) ⊎ (kind ≡ NumberTooBig)
 

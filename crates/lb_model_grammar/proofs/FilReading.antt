@@ -56,13 +56,13 @@ differs-letters f m more _ _ (differs_also {word = word} {given = given} e l) =
 
 -- ---- Letters l
 
-behind-second : (K : Order → List Given → Worth Scanned → Type 0) (t : Tok) → is_letter 108 t ≡ true → Step (Fils K Fil) (Fils K Fill) (AToken t)
+pub behind-second : (K : Order → List Given → Worth Scanned → Type 0) (t : Tok) → is_letter 108 t ≡ true → Step (Fils K Fil) (Fils K Fill) (AToken t)
 behind-second K t e = record { into = λ all w r. second e r; onto = onto } where
   onto : (all : List Given) (w : Worth Scanned) → Fils K Fil (AToken t ∷ all) w → Fils K Fill all w
   onto all w (fil b k) = cc
   onto all w (second h r) = r
 
-behind-third : (K : Order → List Given → Worth Scanned → Type 0) (t : Tok) → is_letter 108 t ≡ true → Step (Fils K Fill) (Fils K Filll) (AToken t)
+pub behind-third : (K : Order → List Given → Worth Scanned → Type 0) (t : Tok) → is_letter 108 t ≡ true → Step (Fils K Fill) (Fils K Filll) (AToken t)
 behind-third K t e = record { into = λ all w r. third e r; onto = onto } where
   onto : (all : List Given) (w : Worth Scanned) → Fils K Fill (AToken t ∷ all) w → Fils K Filll all w
   onto all w (fill b k) = cc
@@ -80,7 +80,7 @@ no-third K t e = record { empty = λ w k. fill refl k; into = λ all w k. fill e
   onto all w (fill b k) = k
   onto all w (third h r) = cc
 
-three : (K : Order → List Given → Worth Scanned → Type 0) → Equal (Fils K Filll) (K Filll)
+pub three : (K : Order → List Given → Worth Scanned → Type 0) → Equal (Fils K Filll) (K Filll)
 three K = record { into = λ all w k. filll k; onto = onto } where
   onto : (all : List Given) (w : Worth Scanned) → Fils K Filll all w → K Filll all w
   onto all w (filll k) = k

@@ -2,10 +2,10 @@
 use Rattle.std.proofs.Common.{◌≡◌, ◌∙◌, ◌++◌, ◌≤◌, Bool, true, false, ℕ, ℤ, pos, List, [], ◌∷◌, length, codes, refl, ap, sym, subst, arith, inl, inr}
 use Rattle.std.specs.Prelude.{◌⊎◌}
 use Rattle.lb_base.specs.declared.fault.Kind.{Kind}
-use Rattle.lb_base.specs.declared.fault.Kind.TheVariants.{NumberMissing, UnitMissing}
+use Rattle.lb_base.specs.declared.fault.Kind.TheVariants.{DimenTooLarge, NumberMissing, NumberTooBig, UnitMissing}
 use Rattle.lb_base.specs.declared.glue.Glue.{Glue}
 use Rattle.lb_base.specs.declared.glue.Order.{Order}
-use Rattle.lb_base.specs.declared.glue.Order.TheVariants.{Finite}
+use Rattle.lb_base.specs.declared.glue.Order.TheVariants.{Finite, Fil, Fill, Filll}
 use Rattle.lb_base.specs.declared.token.Category.TheVariants as category
 use Rattle.lb_base.specs.declared.token.Tok.{Tok}
 use Rattle.lb_base.specs.declared.token.Tok.TheVariants.{Char}
@@ -18,21 +18,24 @@ use Rattle.lb_model_grammar.specs.declared.given.Scanned.TheVariants.{Skip}
 use Rattle.lb_model_grammar.specs.declared.given.Want.{Want}
 use Rattle.lb_model_grammar.specs.declared.given.Want.TheVariants as want
 use Rattle.lb_model_grammar.specs.Dimensions.{Uses, glue, glue_alone, glue_units, in_unit, length_behind, of_width, shrink, shrink_alone, signed_glue, stretch, stretch_alone, units}
-use Rattle.lb_model_grammar.specs.GlueGrammar.{GlueUnit, IsGlue, Shrink, Stretch, glue_by, glue_found, shrink_by, shrink_found, shrunk, stretch_by, stretch_found, stretched}
-use Rattle.lb_model_grammar.specs.GlueGrammar.GlueUnit.{finite}
+use Rattle.lb_model_grammar.specs.GlueGrammar.{Fils, GlueUnit, IsGlue, Shrink, Stretch, glue_by, glue_found, shrink_by, shrink_found, shrunk, stretch_by, stretch_found, stretched}
+use Rattle.lb_model_grammar.specs.GlueGrammar.Fils.{fil, fill, filll, second, third}
+use Rattle.lb_model_grammar.specs.GlueGrammar.GlueUnit.{finite, infinite}
 use Rattle.lb_model_grammar.specs.GlueGrammar.Shrink.{minus, nothing as no_shrink}
 use Rattle.lb_model_grammar.specs.GlueGrammar.Stretch.{nothing as no_stretch, plus}
+use Rattle.lb_model_grammar.specs.Dimensions.Unit_of.{Infinite}
 use Rattle.lb_model_grammar.specs.LengthGrammar.{InUnit, IsLength, OneOf}
 use Rattle.lb_model_grammar.specs.Scans.{Meant, keyword, signed}
 use Rattle.lb_model_grammar.specs.Scans.Meant.{Open, Ended, Wrong}
 use Rattle.lb_model_grammar.specs.WordGrammar.{Keyword, Nothing}
+use Rattle.lb_model_grammar.specs.WordGrammar.Keyword.{blank as key_blank, letters as key_letters}
 use Rattle.lb_model_grammar.specs.WordGrammar.Nothing.{more as nothing_more}
 use Rattle.lb_model_grammar.specs.Written.{GoesOn, IsRead, IsTooLarge, NoneBegins, Reads, ReadsOr, Worth}
 use Rattle.lb_model_grammar.specs.Written.Answers.{expanded}
 use Rattle.lb_model_grammar.specs.Written.ReadsOr.{none, reads}
 use Rattle.lb_model_grammar.specs.Written.Worth.{TooLarge, Value}
 use Rattle.lb_model_grammar.proofs.DecimalReading.{length-has, length-reads}
-use Rattle.lb_model_grammar.proofs.DimensionReading.{nothing-has, nothing-more, point-rest, units-each}
+use Rattle.lb_model_grammar.proofs.DimensionReading.{IsFine, in-unit-all, length-all, letters-all, one-of-all, nothing-has, nothing-more, point-rest, units-each}
 use Rattle.lb_model_grammar.proofs.FilReading.{glue-unit-filled, glue-units-read}
 use Rattle.lb_model_grammar.proofs.KeywordPlaces.{WordFate, WordFront, word-fate, word-front-reads, word-goes-on, word-not-other, word-not-there}
 use Rattle.lb_model_grammar.proofs.KeywordPlaces.WordFate.{word_differs, word_short, word_whole}
@@ -246,3 +249,90 @@ glue-wrong given kind e = by (glue-reads given) where
   by (reads r) = inl (subst (λ (m : Meant Scanned). Reads IsGlue given m) e r)
   by (none (inl m) n) = inr (inl cc, n)
   by (none (inr m) n) = inr (inr cc, n)
+
+-- ---- What glue is worth
+
+keyword-all : (P : Worth Scanned → Type 0) (K : List Given → Worth Scanned → Type 0) → ((all : List Given) (w : Worth Scanned) → K all w → P w)
+    → (word : List ℕ) (all : List Given) (w : Worth Scanned) → Keyword K word all w → P w
+keyword-all P K k word _ w (key_blank {given = all} h r) = keyword-all P K k word all w r
+keyword-all P K k word all w (key_letters b l) = letters-all P K k word all w l
+
+fils-all : (P : Worth Scanned → Type 0) (K : Order → List Given → Worth Scanned → Type 0) → ((order : Order) (all : List Given) (w : Worth Scanned) → K order all w → P w)
+    → (order : Order) (all : List Given) (w : Worth Scanned) → Fils K order all w → P w
+fils-all P K k _ all w (fil b r) = k Fil all w r
+fils-all P K k _ all w (fill b r) = k Fill all w r
+fils-all P K k _ all w (filll r) = k Filll all w r
+fils-all P K k _ _ w (second {given = all} h r) = fils-all P K k Fill all w r
+fils-all P K k _ _ w (third {given = all} h r) = fils-all P K k Filll all w r
+
+glue-unit-fine : (found : Order → ℤ → List Given → Worth Scanned → Type 0) → ((order : Order) (v : ℤ) (all : List Given) (w : Worth Scanned) → found order v all w → IsFine w)
+    → (n : Bool) (whole fraction : ℕ) (all : List Given) (w : Worth Scanned) → GlueUnit found n whole fraction all w → IsFine w
+glue-unit-fine found f n whole fraction all w (infinite l) =
+    letters-all IsFine (Fils (λ order. InUnit found n whole fraction (Infinite order)) Fil)
+      (fils-all IsFine (λ order. InUnit found n whole fraction (Infinite order)) (λ order. in-unit-all IsFine (inl refl) found f n whole fraction (Infinite order)) Fil) (codes "fil") all w l
+glue-unit-fine found f n whole fraction all w (finite o) =
+    one-of-all IsFine (InUnit found n whole fraction) (in-unit-all IsFine (inl refl) found f n whole fraction) units all w o
+
+nothing-fine : (x : Scanned) (all : List Given) (w : Worth Scanned) → Nothing (Value x) all w → IsFine w
+nothing-fine x _ _ nothing_more = tt
+
+shrink-fine : (g : Glue) (all : List Given) (w : Worth Scanned) → Shrink g all w → IsFine w
+shrink-fine g _ _ no_shrink = tt
+shrink-fine g all w (minus k) =
+    keyword-all IsFine (Shrinks g)
+      (length-all IsFine (inl refl) (inr refl) (GlueUnit (shrink_found g)) (shrink_found g) (shrink_by g) (λ order v. nothing-fine (Skip (shrunk g order v)))
+        (glue-unit-fine (shrink_found g) (λ order v. nothing-fine (Skip (shrunk g order v)))) by_fine false) (codes "minus") all w k where
+  by_fine : (n : Bool) (q : Quantity) (all : List Given) (w : Worth Scanned) → shrink_by g n q all w → IsFine w
+  by_fine n (quantity.Dimen v) all w r = nothing-fine (Skip (shrunk g Finite (signed n v))) all w r
+  by_fine n quantity.NotOne all w r = absurd r
+  by_fine n (quantity.Number v) all w r = absurd r
+  by_fine n (quantity.Skip v) all w r = absurd r
+
+stretch-fine : (g : Glue) (all : List Given) (w : Worth Scanned) → Stretch g all w → IsFine w
+stretch-fine g all w (no_stretch r) = shrink-fine g all w r
+stretch-fine g all w (plus k) =
+    keyword-all IsFine (Stretches g)
+      (length-all IsFine (inl refl) (inr refl) (GlueUnit (stretch_found g)) (stretch_found g) (stretch_by g) (λ order v. shrink-fine (stretched g order v))
+        (glue-unit-fine (stretch_found g) (λ order v. shrink-fine (stretched g order v))) by_fine false) (codes "plus") all w k where
+  by_fine : (n : Bool) (q : Quantity) (all : List Given) (w : Worth Scanned) → stretch_by g n q all w → IsFine w
+  by_fine n (quantity.Dimen v) all w r = shrink-fine (stretched g Finite (signed n v)) all w r
+  by_fine n quantity.NotOne all w r = absurd r
+  by_fine n (quantity.Number v) all w r = absurd r
+  by_fine n (quantity.Skip v) all w r = absurd r
+
+glue-fine : (all : List Given) (w : Worth Scanned) → IsGlue all w → IsFine w
+glue-fine all w r =
+    length-all IsFine (inl refl) (inr refl) units_of_glue glue_found glue_by (λ order v. stretch-fine (of_width v))
+      (λ n whole fraction. one-of-all IsFine (InUnit glue_found n whole fraction) (in-unit-all IsFine (inl refl) glue_found (λ order v. stretch-fine (of_width v)) n whole fraction) units)
+      by_fine false all w r where
+  by_fine : (n : Bool) (q : Quantity) (all : List Given) (w : Worth Scanned) → glue_by n q all w → IsFine w
+  by_fine n (quantity.Dimen v) all w r = stretch-fine (of_width (signed n v)) all w r
+  by_fine n (quantity.Skip g) all w r = nothing-fine (Skip (signed_glue n g)) all w r
+  by_fine n quantity.NotOne all w r = absurd r
+  by_fine n (quantity.Number v) all w r = absurd r
+
+never : (kind : Kind) → (kind ≡ NumberMissing) ⊎ (kind ≡ UnitMissing) → (kind ≡ DimenTooLarge) ⊎ (kind ≡ NumberTooBig) → ⊥
+never kind (inl a) (inl b) = cc
+never kind (inl a) (inr b) = cc
+never kind (inr a) (inl b) = cc
+never kind (inr a) (inr b) = cc
+
+pub glue-missing : (given : List Given) (kind : Kind) → glue given ≡ Wrong kind → (kind ≡ NumberMissing) ⊎ (kind ≡ UnitMissing) → NoneBegins IsGlue given
+glue-missing given kind e h = by (glue-wrong given kind e) where
+  by : IsTooLarge IsGlue given kind ⊎ (((kind ≡ NumberMissing) ⊎ (kind ≡ UnitMissing)) × NoneBegins IsGlue given) → NoneBegins IsGlue given
+  by (inr n) = n.1
+  by (inl t) = absurd (never kind h (glue-fine t.is.read (TooLarge kind) t.is.is))
+
+pub glue-too_large : (given : List Given) (kind : Kind) → glue given ≡ Wrong kind → (kind ≡ DimenTooLarge) ⊎ (kind ≡ NumberTooBig) → IsTooLarge IsGlue given kind
+glue-too_large given kind e h = by (glue-wrong given kind e) where
+  by : IsTooLarge IsGlue given kind ⊎ (((kind ≡ NumberMissing) ⊎ (kind ≡ UnitMissing)) × NoneBegins IsGlue given) → IsTooLarge IsGlue given kind
+  by (inl t) = t
+  by (inr n) = absurd (never kind n.0 h)
+
+pub glue-faults : (given : List Given) (kind : Kind) → glue given ≡ Wrong kind
+    → ((kind ≡ DimenTooLarge) ⊎ (kind ≡ NumberTooBig)) ⊎ ((kind ≡ NumberMissing) ⊎ (kind ≡ UnitMissing))
+glue-faults given kind e = by (glue-wrong given kind e) where
+  by : IsTooLarge IsGlue given kind ⊎ (((kind ≡ NumberMissing) ⊎ (kind ≡ UnitMissing)) × NoneBegins IsGlue given)
+      → ((kind ≡ DimenTooLarge) ⊎ (kind ≡ NumberTooBig)) ⊎ ((kind ≡ NumberMissing) ⊎ (kind ≡ UnitMissing))
+  by (inl t) = inl (glue-fine t.is.read (TooLarge kind) t.is.is)
+  by (inr n) = inr n.0

@@ -67,7 +67,7 @@ pub record Behind (u : Uses) (table : Bool → ℕ → ℕ → List Given → Wo
 pub spaced-has : (K : List Given → Worth Scanned → Type 0) → Has K → Has (Spaced K)
 spaced-has K h = record { some = AToken (Char category.Space 32) ∷ h.some; worth = h.worth; is = space refl h.is }
 
-behind-space : (K : List Given → Worth Scanned → Type 0) (t : Tok) → is_space t ≡ true → Step (Spaced K) K (AToken t)
+pub behind-space : (K : List Given → Worth Scanned → Type 0) (t : Tok) → is_space t ≡ true → Step (Spaced K) K (AToken t)
 behind-space K t e = record { into = λ all w k. space e k; onto = onto } where
   onto : (all : List Given) (w : Worth Scanned) → Spaced K (AToken t ∷ all) w → K all w
   onto all w (bare b k) = cc
@@ -96,7 +96,7 @@ spaced-reads K done h r (End ∷ given) =
 
 -- ---- Sizes
 
-sized-equal : (found : Order → ℤ → List Given → Worth Scanned → Type 0) (n : Bool) (order : Order) (x : ℕ) → nat_lt x 1073741824 ≡ true
+pub sized-equal : (found : Order → ℤ → List Given → Worth Scanned → Type 0) (n : Bool) (order : Order) (x : ℕ) → nat_lt x 1073741824 ≡ true
     → Equal (Sized found n order x) (found order (signed n (pos x)))
 sized-equal found n order x e = record { into = λ all w k. small e k; onto = onto } where
   onto : (all : List Given) (w : Worth Scanned) → Sized found n order x all w → found order (signed n (pos x)) all w
@@ -142,7 +142,7 @@ spaced-size u found h r n order x given = spaced-reads (Sized found n order x) (
 
 -- ---- Units of the font
 
-behind-size : (found : Order → ℤ → List Given → Worth Scanned → Type 0) (n : Bool) (whole fraction : ℕ) (v : ℤ)
+pub behind-size : (found : Order → ℤ → List Given → Worth Scanned → Type 0) (n : Bool) (whole fraction : ℕ) (v : ℤ)
     → Step (FontSize found n whole fraction) (Spaced (Multiple found n whole fraction v)) (AQuantity (quantity.Dimen v))
 behind-size found n whole fraction v = record { into = λ all w k. size k; onto = λ all w s. elim s [ size k ↦ k ] }
 
@@ -171,7 +171,7 @@ font-reads u found h r asked a n whole fraction (End ∷ given) = no-size u foun
 
 -- ---- Internal units
 
-behind-dimen : (found : Order → ℤ → List Given → Worth Scanned → Type 0) (n : Bool) (whole fraction : ℕ) (v : ℤ)
+pub behind-dimen : (found : Order → ℤ → List Given → Worth Scanned → Type 0) (n : Bool) (whole fraction : ℕ) (v : ℤ)
     → Step (InternalUnit found n whole fraction) (Multiple found n whole fraction v) (AQuantity (quantity.Dimen v))
 behind-dimen found n whole fraction v = record { into = λ all w k. dimen k; onto = λ all w s. elim s [ dimen k ↦ k ] }
 

@@ -7,6 +7,7 @@ pub mod GroupReading
 pub mod KeywordPlaces
 pub mod LengthReading
 pub mod NumberReading
+pub mod OneWorth
 pub mod ReadingSteps
 pub mod UnitReading
 pub mod WordReading

@@ -65,6 +65,7 @@ pub fn dimensions_read()
         → NoneBegins IsDimension given }
     ensures no_other_fault { (given : List Given) (kind : Kind) → dimension given ≡ Wrong kind
         → ((kind ≡ DimenTooLarge) ⊎ (kind ≡ NumberTooBig)) ⊎ ((kind ≡ NumberMissing) ⊎ (kind ≡ UnitMissing)) }
+    ensures one_worth { (all : List Given) (x y : Worth Scanned) → IsDimension all x → IsDimension all y → x ≡ y }
 {}
 
 /// A delimited argument is the shortest balanced list that its delimiter follows, without its braces where it is wholly one group. Where
@@ -90,6 +91,16 @@ pub fn undelimited_arguments_read()
     ensures { (long : Bool) (given rest : List Given) (arg : List Tok) → argument long [] given ≡ Ended arg rest → IsUndelimited long given arg rest }
 {}
 
+/// The same of glue, whose grammar has internal glue, and a dimension with what it stretches and shrinks by. A part that does not come is not of
+/// the reading, nor are the spaces before it.
 pub fn glue_read()
-    ensures { (given rest : List Given) (x : Scanned) → glue given ≡ Ended x rest → IsRead IsGlue given (Value x) rest }
+    ensures read { (given rest : List Given) (x : Scanned) → glue given ≡ Ended x rest → IsRead IsGlue given (Value x) rest }
+    ensures goes_on { (given : List Given) (want : Want) → glue given ≡ Open want → GoesOn IsGlue given want }
+    ensures too_large { (given : List Given) (kind : Kind) → glue given ≡ Wrong kind → (kind ≡ DimenTooLarge) ⊎ (kind ≡ NumberTooBig)
+        → IsTooLarge IsGlue given kind }
+    ensures missing { (given : List Given) (kind : Kind) → glue given ≡ Wrong kind → (kind ≡ NumberMissing) ⊎ (kind ≡ UnitMissing)
+        → NoneBegins IsGlue given }
+    ensures no_other_fault { (given : List Given) (kind : Kind) → glue given ≡ Wrong kind
+        → ((kind ≡ DimenTooLarge) ⊎ (kind ≡ NumberTooBig)) ⊎ ((kind ≡ NumberMissing) ⊎ (kind ≡ UnitMissing)) }
+    ensures one_worth { (all : List Given) (x y : Worth Scanned) → IsGlue all x → IsGlue all y → x ≡ y }
 {}

@@ -1,4 +1,5 @@
 use Rattle.lb_model_grammar.proofs.DimensionReading.{dimension-faults, dimension-goes_on, dimension-missing, dimension-read, dimension-too_large}
+use Rattle.lb_model_grammar.proofs.OneWorth.{dimension-one}
 use Rattle.lb_model_grammar.proofs.laws.dimensions_read.Goals as goal
 
 pub returns-clause-read : goal.returns-clause-read
@@ -15,3 +16,6 @@ returns-clause-missing c = dimension-missing
 
 pub returns-clause-no_other_fault : goal.returns-clause-no_other_fault
 returns-clause-no_other_fault c = dimension-faults
+
+pub returns-clause-one_worth : goal.returns-clause-one_worth
+returns-clause-one_worth c = dimension-one
