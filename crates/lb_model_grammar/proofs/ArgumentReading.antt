@@ -1,7 +1,6 @@
 -- What arguments are, by lists of tokens.
-use Rattle.std.proofs.Common.{rules, ◌≡◌, ◌↔◌, ◌∙◌, ◌++◌, ◌+◌, ◌<◌, ◌≤◌, IsTrue, Bool, true, false, not, ℕ, zero, suc, nat_lt, List, [], ◌∷◌, length, Some, None, refl, ap, sym, subst, arith, inl, inr, append_assoc, append-nil, length-append}
-use Rattle.std.specs.Prelude.{◌⊎◌, ◌&&◌, Option, codes, nat_eq, if◌then◌else◌}
-use Rattle.std.specs.Cmp.Lexicographic.{pointwise}
+use Rattle.std.proofs.Common.{rules, ◌≡◌, ◌↔◌, ◌∙◌, ◌++◌, ◌+◌, ◌<◌, ◌≤◌, IsTrue, Bool, true, false, ℕ, zero, suc, nat_lt, List, [], ◌∷◌, length, Some, None, refl, ap, sym, arith, inl, inr, append_assoc, append-nil, length-append}
+use Rattle.std.specs.Prelude.{◌⊎◌, Option, if◌then◌else◌}
 use Rattle.std.proofs.lemmas.Bool.{ltb-false}
 use Rattle.lb_base.specs.declared.fault.Kind.{Kind}
 use Rattle.lb_base.specs.declared.fault.Kind.TheVariants.{DepthLimit, Runaway, UseMismatch}
@@ -13,15 +12,13 @@ use Rattle.lb_model_grammar.specs.declared.class.Brace.TheVariants.{Opening, Clo
 use Rattle.lb_model_grammar.specs.declared.given.Given.{Given}
 use Rattle.lb_model_grammar.specs.declared.given.Given.TheVariants.{Tok as AToken, Quantity as AQuantity, End}
 use Rattle.lb_model_grammar.specs.declared.given.Quantity.{Quantity}
-use Rattle.lb_model_grammar.specs.declared.given.Want.TheVariants as want
-use Rattle.lb_model_grammar.specs.ArgumentGrammar.{ClosesAtBase, Fits, IsBalanced, IsDelimited, IsGroup, IsUndelimited, NoneDelimited, OnlyLonger, before, is_barred, levels}
+use Rattle.lb_model_grammar.specs.ArgumentGrammar.{Fits, IsDelimited, NoneDelimited, OnlyLonger, before, is_barred, levels}
 use Rattle.lb_model_grammar.specs.ArgumentGrammar.Fits.{nothing, token}
-use Rattle.lb_model_grammar.specs.ArgumentGrammar.IsUndelimited.{blank, group as a_group, token as a_token}
-use Rattle.lb_model_grammar.specs.Arguments.{Begun, at_base, begins, brace_of, but_last, closes, closes_at_end, delimited, delimited_as, delimited_by, group, group_as, is_par, level_then, longer, one_less, opens, undelimited, undelimited_as, without_braces}
+use Rattle.lb_model_grammar.specs.Arguments.{Begun, at_base, begins, brace_of, closes, delimited, delimited_as, delimited_by, level_then, longer, one_less, opens, without_braces}
 use Rattle.lb_model_grammar.specs.Arguments.Begun.{Cut, Does, DoesNot, May}
 use Rattle.lb_model_grammar.specs.Same.{tok_eq}
-use Rattle.lb_model_grammar.specs.Scans.{Meant, is_space}
-use Rattle.lb_model_grammar.specs.Scans.Meant.{Open, Ended, Wrong}
+use Rattle.lb_model_grammar.specs.Scans.{Meant}
+use Rattle.lb_model_grammar.specs.Scans.Meant.{Ended, Wrong}
 
 -- ---- Tokens that are one
 
@@ -154,6 +151,7 @@ rest-then long delimiter level next body t given arg rest f e d r = record {
   not-here : (level : ℕ) (behind : List Given) → at_base level (begins delimiter (AToken t ∷ given)) ≡ DoesNot → Some level ≡ Some 0 → AToken t ∷ given ≡ before delimiter behind → ⊥
   not-here zero behind d l q = begins-not delimiter (AToken t ∷ given) [] behind d (append-nil (AToken t ∷ given) ∙ q)
   not-here (suc n) behind d l q = cc
+
   shortest : (other : List Tok) (behind : List Given) → levels (Some level) other ≡ Some 0 → AToken t ∷ given ≡ before other (before delimiter behind) → suc (length r.toks) ≤ length other
   shortest [] behind l q = absurd (not-here level behind d l q)
   shortest (s ∷ other) behind l q =
@@ -182,23 +180,23 @@ rest-taken : (long : Bool) (delimiter : List Tok) (level : ℕ) (body : List Tok
     → Rest long delimiter level body (AToken t ∷ given) arg rest
 rest-taken long delimiter level body t given arg rest d ih (opening k o l f) e =
     let q : longer body t (λ b. delimited long delimiter (suc level) b given) ≡ Ended arg rest =
-        sym (ap (λ (x : Brace). delimited_as x level body t (λ l b. delimited long delimiter l b given)) k) ∙ e in
+    sym (ap (λ (x : Brace). delimited_as x level body t (λ l b. delimited long delimiter l b given)) k) ∙ e in
     rest-then long delimiter level (suc level) body t given arg rest f (l level) d
-      (ih (suc level) (body ++ t ∷ []) (longer-ended body t (λ b. delimited long delimiter (suc level) b given) arg rest q))
+    (ih (suc level) (body ++ t ∷ []) (longer-ended body t (λ b. delimited long delimiter (suc level) b given) arg rest q))
 rest-taken long delimiter zero body t given arg rest d ih (closing k o l f) e =
     let q : Wrong UseMismatch ≡ Ended arg rest = sym (ap (λ (x : Brace). delimited_as x 0 body t (λ l b. delimited long delimiter l b given)) k) ∙ e in cc
 rest-taken long delimiter (suc level) body t given arg rest d ih (closing k o l f) e =
     let q : longer body t (λ b. delimited long delimiter level b given) ≡ Ended arg rest =
-        sym (ap (λ (x : Brace). delimited_as x (suc level) body t (λ l b. delimited long delimiter l b given)) k) ∙ e in
+    sym (ap (λ (x : Brace). delimited_as x (suc level) body t (λ l b. delimited long delimiter l b given)) k) ∙ e in
     rest-then long delimiter (suc level) level body t given arg rest f (l (suc level)) d
-      (ih level (body ++ t ∷ []) (longer-ended body t (λ b. delimited long delimiter level b given) arg rest q))
+    (ih level (body ++ t ∷ []) (longer-ended body t (λ b. delimited long delimiter level b given) arg rest q))
 rest-taken long delimiter level body t given arg rest d ih (paragraph k f) e =
     let q : Wrong Runaway ≡ Ended arg rest = sym (ap (λ (x : Brace). delimited_as x level body t (λ l b. delimited long delimiter l b given)) k) ∙ e in cc
 rest-taken long delimiter level body t given arg rest d ih (plain k o c l f) e =
     let q : longer body t (λ b. delimited long delimiter level b given) ≡ Ended arg rest =
-        sym (ap (λ (x : Brace). delimited_as x level body t (λ l b. delimited long delimiter l b given)) k) ∙ e in
+    sym (ap (λ (x : Brace). delimited_as x level body t (λ l b. delimited long delimiter l b given)) k) ∙ e in
     rest-then long delimiter level level body t given arg rest f (l level) d
-      (ih level (body ++ t ∷ []) (longer-ended body t (λ b. delimited long delimiter level b given) arg rest q))
+    (ih level (body ++ t ∷ []) (longer-ended body t (λ b. delimited long delimiter level b given) arg rest q))
 
 rest-by : (long : Bool) (delimiter : List Tok) (level : ℕ) (body : List Tok) (t : Tok) (given : List Given) (arg : List Tok) (rest : List Given)
     → ((l : ℕ) (b : List Tok) → delimited long delimiter l b given ≡ Ended arg rest → Rest long delimiter l b given arg rest)
@@ -258,36 +256,37 @@ none-taken : (long : Bool) (d : Tok) (delimiter : List Tok) (level : ℕ) (body 
     → None_from long d delimiter level body (AToken t ∷ given) kind
 none-taken long d delimiter level body t given kind n ih (opening k o l f) e =
     none-then long d delimiter level (suc level) body t given kind (l level) n
-      (either (longer-wrong body t (λ b. delimited long (d ∷ delimiter) (suc level) b given) kind
-        (sym (ap (λ (x : Brace). delimited_as x level body t (λ l b. delimited long (d ∷ delimiter) l b given)) k) ∙ e)))
-    where
-  either : ((kind ≡ DepthLimit) × (1000000 ≤ length body)) ⊎ (delimited long (d ∷ delimiter) (suc level) (body ++ t ∷ []) given ≡ Wrong kind)
-      → ((kind ≡ DepthLimit) × (1000000 ≤ length body)) ⊎ None_from long d delimiter (suc level) (body ++ t ∷ []) given kind
-  either (inl m) = inl m
-  either (inr q) = inr (ih (suc level) (body ++ t ∷ []) q)
+    (either (longer-wrong body t (λ b. delimited long (d ∷ delimiter) (suc level) b given) kind
+    (sym (ap (λ (x : Brace). delimited_as x level body t (λ l b. delimited long (d ∷ delimiter) l b given)) k) ∙ e)))
+  where
+    either : ((kind ≡ DepthLimit) × (1000000 ≤ length body)) ⊎ (delimited long (d ∷ delimiter) (suc level) (body ++ t ∷ []) given ≡ Wrong kind)
+        → ((kind ≡ DepthLimit) × (1000000 ≤ length body)) ⊎ None_from long d delimiter (suc level) (body ++ t ∷ []) given kind
+    either (inl m) = inl m
+    either (inr q) = inr (ih (suc level) (body ++ t ∷ []) q)
 none-taken long d delimiter zero body t given kind n ih (closing k o l f) e = at where
   at : None_from long d delimiter 0 body (AToken t ∷ given) kind
   at [] more behind b g q = absurd (begins-not (d ∷ delimiter) (AToken t ∷ given) more behind n q)
   at (s ∷ other) more behind b g q =
       let head : t ≡ s = cc in
       absurd (none-left other (ap (λ (o : Option ℕ). levels o other) (sym (l 0) ∙ ap (λ k. level_then k 0) head) ∙ b)) where
-    none-left : (other : List Tok) → levels None other ≡ Some 0 → ⊥
-    none-left [] b = cc
-    none-left (x ∷ other) b = cc
+        none-left : (other : List Tok) → levels None other ≡ Some 0 → ⊥
+        none-left [] b = cc
+        none-left (x ∷ other) b = cc
 none-taken long d delimiter (suc level) body t given kind n ih (closing k o l f) e =
     none-then long d delimiter (suc level) level body t given kind (l (suc level)) n
-      (either (longer-wrong body t (λ b. delimited long (d ∷ delimiter) level b given) kind
-        (sym (ap (λ (x : Brace). delimited_as x (suc level) body t (λ l b. delimited long (d ∷ delimiter) l b given)) k) ∙ e)))
-    where
-  either : ((kind ≡ DepthLimit) × (1000000 ≤ length body)) ⊎ (delimited long (d ∷ delimiter) level (body ++ t ∷ []) given ≡ Wrong kind)
-      → ((kind ≡ DepthLimit) × (1000000 ≤ length body)) ⊎ None_from long d delimiter level (body ++ t ∷ []) given kind
-  either (inl m) = inl m
-  either (inr q) = inr (ih level (body ++ t ∷ []) q)
+    (either (longer-wrong body t (λ b. delimited long (d ∷ delimiter) level b given) kind
+    (sym (ap (λ (x : Brace). delimited_as x (suc level) body t (λ l b. delimited long (d ∷ delimiter) l b given)) k) ∙ e)))
+  where
+    either : ((kind ≡ DepthLimit) × (1000000 ≤ length body)) ⊎ (delimited long (d ∷ delimiter) level (body ++ t ∷ []) given ≡ Wrong kind)
+        → ((kind ≡ DepthLimit) × (1000000 ≤ length body)) ⊎ None_from long d delimiter level (body ++ t ∷ []) given kind
+    either (inl m) = inl m
+    either (inr q) = inr (ih level (body ++ t ∷ []) q)
 none-taken long d delimiter level body t given kind n ih (paragraph k f) e = at where
   not-here : (level : ℕ) (more behind : List Given) → at_base level (begins (d ∷ delimiter) (AToken t ∷ given)) ≡ DoesNot → Some level ≡ Some 0
       → AToken t ∷ given ++ more ≡ AToken d ∷ before delimiter behind → ⊥
   not-here zero more behind n l q = begins-not (d ∷ delimiter) (AToken t ∷ given) more behind n q
   not-here (suc k) more behind n l q = cc
+
   at : None_from long d delimiter level body (AToken t ∷ given) kind
   at [] more behind b g q = absurd (not-here level more behind n b q)
   at (s ∷ other) more behind b (token h g) q =
@@ -296,13 +295,13 @@ none-taken long d delimiter level body t given kind n ih (paragraph k f) e = at 
       cc
 none-taken long d delimiter level body t given kind n ih (plain k o c l f) e =
     none-then long d delimiter level level body t given kind (l level) n
-      (either (longer-wrong body t (λ b. delimited long (d ∷ delimiter) level b given) kind
-        (sym (ap (λ (x : Brace). delimited_as x level body t (λ l b. delimited long (d ∷ delimiter) l b given)) k) ∙ e)))
-    where
-  either : ((kind ≡ DepthLimit) × (1000000 ≤ length body)) ⊎ (delimited long (d ∷ delimiter) level (body ++ t ∷ []) given ≡ Wrong kind)
-      → ((kind ≡ DepthLimit) × (1000000 ≤ length body)) ⊎ None_from long d delimiter level (body ++ t ∷ []) given kind
-  either (inl m) = inl m
-  either (inr q) = inr (ih level (body ++ t ∷ []) q)
+    (either (longer-wrong body t (λ b. delimited long (d ∷ delimiter) level b given) kind
+    (sym (ap (λ (x : Brace). delimited_as x level body t (λ l b. delimited long (d ∷ delimiter) l b given)) k) ∙ e)))
+  where
+    either : ((kind ≡ DepthLimit) × (1000000 ≤ length body)) ⊎ (delimited long (d ∷ delimiter) level (body ++ t ∷ []) given ≡ Wrong kind)
+        → ((kind ≡ DepthLimit) × (1000000 ≤ length body)) ⊎ None_from long d delimiter level (body ++ t ∷ []) given kind
+    either (inl m) = inl m
+    either (inr q) = inr (ih level (body ++ t ∷ []) q)
 
 pub cut-at-base : (level : ℕ) (begun : Begun) → at_base level begun ≡ Cut → begun ≡ Cut
 cut-at-base zero begun e = e

@@ -1,15 +1,13 @@
 -- What is read of a decimal and its unit, and of a dimension as a whole.
-use Rattle.std.proofs.Common.{◌≡◌, ◌∙◌, ◌++◌, ◌+◌, ◌*◌, ◌/◌, ◌<◌, ◌≤◌, Bool, true, false, not, ℕ, ℤ, pos, nat_lt, List, [], ◌∷◌, length, Some, None, refl, ap, sym, subst, arith, inl, inr, take}
-use Rattle.std.specs.Prelude.{◌⊎◌, Option, if◌then◌else◌, min, nat_abs}
+use Rattle.std.proofs.Common.{◌≡◌, ◌∙◌, ◌++◌, ◌+◌, ◌*◌, ◌≤◌, Bool, true, false, not, ℕ, ℤ, pos, nat_lt, List, [], ◌∷◌, length, Some, None, refl, ap, sym, subst, arith, inl, inr, take}
+use Rattle.std.specs.Prelude.{Option, if◌then◌else◌}
 use Rattle.std.proofs.lemmas.Bool.{le-ltb, ltb-false}
 use Rattle.lb_base.specs.Decimals.{fraction_from_digits}
-use Rattle.lb_base.specs.declared.fault.Kind.{Kind}
-use Rattle.lb_base.specs.declared.fault.Kind.TheVariants.{DimenTooLarge, NumberMissing, NumberTooBig, UnitMissing}
+use Rattle.lb_base.specs.declared.fault.Kind.TheVariants.{NumberTooBig, UnitMissing}
 use Rattle.lb_base.specs.declared.glue.Order.{Order}
-use Rattle.lb_base.specs.declared.glue.Order.TheVariants.{Finite}
 use Rattle.lb_base.specs.declared.token.Category.TheVariants as category
 use Rattle.lb_base.specs.declared.token.Tok.{Tok}
-use Rattle.lb_base.specs.declared.token.Tok.TheVariants.{Char, Word, Active, Param}
+use Rattle.lb_base.specs.declared.token.Tok.TheVariants.{Char}
 use Rattle.lb_model_grammar.specs.declared.class.Class.{Class}
 use Rattle.lb_model_grammar.specs.declared.class.Class.TheVariants.{Space, Plus, Minus, Digit, Octal, Hexadecimal, Quote, Point, Command, Other}
 use Rattle.lb_model_grammar.specs.declared.given.Given.{Given}
@@ -17,36 +15,27 @@ use Rattle.lb_model_grammar.specs.declared.given.Given.TheVariants.{Tok as AToke
 use Rattle.lb_model_grammar.specs.declared.given.Quantity.{Quantity}
 use Rattle.lb_model_grammar.specs.declared.given.Quantity.TheVariants as quantity
 use Rattle.lb_model_grammar.specs.declared.given.Scanned.{Scanned}
-use Rattle.lb_model_grammar.specs.declared.given.Scanned.TheVariants as scanned
-use Rattle.lb_model_grammar.specs.declared.given.Want.{Want}
 use Rattle.lb_model_grammar.specs.declared.given.Want.TheVariants as want
-use Rattle.lb_model_grammar.specs.Dimensions.{Unit_of, Uses, behind_whole, font_unit, fraction, in_unit, internal, internal_unit, is_negative, length_as, length_behind, point_or_unit, sized, times, unit, unit_as, xor}
-use Rattle.lb_model_grammar.specs.Dimensions.Unit_of.{Infinite, OfFont, Physical, Scaled}
-use Rattle.lb_model_grammar.specs.LengthGrammar.{Alone, BehindWhole, FontSize, Fraction, InUnit, InternalUnit, IsLength, Multiple, OneOf, PointOrUnit, Sized, Spaced, UnitOf, begins_digit, begins_unit}
+use Rattle.lb_model_grammar.specs.Dimensions.{Uses, behind_whole, fraction, in_unit, internal, internal_unit, length_as, length_behind, point_or_unit, unit, unit_as}
+use Rattle.lb_model_grammar.specs.LengthGrammar.{Alone, BehindWhole, Fraction, InternalUnit, IsLength, PointOrUnit, UnitOf, begins_digit, begins_unit}
 use Rattle.lb_model_grammar.specs.LengthGrammar.Alone.{by_itself}
 use Rattle.lb_model_grammar.specs.LengthGrammar.BehindWhole.{large as whole_large, small as whole_small}
-use Rattle.lb_model_grammar.specs.LengthGrammar.FontSize.{size}
 use Rattle.lb_model_grammar.specs.LengthGrammar.Fraction.{digit as fraction_digit, unit as fraction_unit}
-use Rattle.lb_model_grammar.specs.LengthGrammar.InternalUnit.{dimen}
 use Rattle.lb_model_grammar.specs.LengthGrammar.IsLength.{blank, decimal, fraction as point_first, internal as an_internal, minus, plus}
 use Rattle.lb_model_grammar.specs.LengthGrammar.PointOrUnit.{point as a_point, unit as no_point}
-use Rattle.lb_model_grammar.specs.LengthGrammar.Sized.{large, small}
-use Rattle.lb_model_grammar.specs.LengthGrammar.Spaced.{bare, space}
 use Rattle.lb_model_grammar.specs.LengthGrammar.UnitOf.{blank as unit_blank, internal as unit_internal, letters as unit_letters}
 use Rattle.lb_model_grammar.specs.NumberGrammar.{Digits}
 use Rattle.lb_model_grammar.specs.NumberGrammar.Digits.{digit, last}
-use Rattle.lb_model_grammar.specs.Scans.{Meant, class_of, digit_of, digits, grown, if_digit, is_other, is_space, one_of, signed, space_before}
-use Rattle.lb_model_grammar.specs.Scans.Meant.{Open, Ended, Wrong}
-use Rattle.lb_model_grammar.specs.WordGrammar.{begins_blank}
-use Rattle.lb_model_grammar.specs.Written.{Answers, GoesOn, IsTooLarge, NoneBegins, Reads, ReadsOr, Worth}
-use Rattle.lb_model_grammar.specs.Written.Answers.{em, ex, expanded, quantity as a_quantity}
+use Rattle.lb_model_grammar.specs.Scans.{class_of, digit_of, digits, grown, if_digit, is_other, one_of}
+use Rattle.lb_model_grammar.specs.Scans.Meant.{Wrong}
+use Rattle.lb_model_grammar.specs.Written.{GoesOn, ReadsOr, Worth}
+use Rattle.lb_model_grammar.specs.Written.Answers.{expanded, quantity as a_quantity}
 use Rattle.lb_model_grammar.specs.Written.ReadsOr.{none, reads}
-use Rattle.lb_model_grammar.specs.Written.Worth.{TooLarge, Value}
+use Rattle.lb_model_grammar.specs.Written.Worth.{TooLarge}
 use Rattle.lb_model_grammar.proofs.LengthReading.{Behind, Lacks, internal-unit-reads}
 use Rattle.lb_model_grammar.proofs.NumberReading.{Alike, grown-alike}
 use Rattle.lb_model_grammar.proofs.NumberReading.Alike.{large as alike_large, same as alike_same}
-use Rattle.lb_model_grammar.proofs.ReadingSteps.{Equal, Has, Same, Step, among-same, nothing-begins, reads-as, reads-behind, reads-equal, reads-or-among, reads-or-as, reads-or-behind, reads-or-behind-full}
-
+use Rattle.lb_model_grammar.proofs.ReadingSteps.{Has, Same, Step, among-same, nothing-begins, reads-or-among, reads-or-as, reads-or-behind, reads-or-behind-full}
 
 -- ---- The unit behind a decimal
 
@@ -84,7 +73,7 @@ word-unit : (u : Uses) (table : Bool → ℕ → ℕ → List Given → Worth Sc
     → ReadsOr (Lacks u) (UnitOf table found n whole fraction) (AToken t ∷ given) (one_of u.units (in_unit u n whole fraction) (u.missing UnitMissing) (AToken t ∷ given))
 word-unit u table found alone b n whole fraction t given e =
     reads-or-as (unit-word table found n whole fraction t e (b.units_filled n whole fraction)) (unit-not-empty table found n whole fraction) given
-      (one_of u.units (in_unit u n whole fraction) (u.missing UnitMissing) (AToken t ∷ given)) (b.units_read n whole fraction (AToken t ∷ given))
+    (one_of u.units (in_unit u n whole fraction) (u.missing UnitMissing) (AToken t ∷ given)) (b.units_read n whole fraction (AToken t ∷ given))
 
 unit-at : (u : Uses) (table : Bool → ℕ → ℕ → List Given → Worth Scanned → Type 0) (found : Order → ℤ → List Given → Worth Scanned → Type 0) (alone : Bool → Quantity → List Given → Worth Scanned → Type 0) → Behind u table found alone
     → (n : Bool) (whole fraction : ℕ) (t : Tok) (given : List Given) → ReadsOr (Lacks u) (UnitOf table found n whole fraction) given (unit u n whole fraction given)
@@ -94,7 +83,7 @@ unit-at u table found alone b n whole fraction t given ih Space e =
     reads-or-behind (unit-space table found n whole fraction t e) (unit-not-empty table found n whole fraction) given (unit u n whole fraction given) ih
 unit-at u table found alone b n whole fraction t given ih Command e =
     reads-or-behind (unit-command table found n whole fraction t e) (unit-not-empty table found n whole fraction) given (internal_unit u n whole fraction given)
-      (internal-unit-reads u found b.found_has b.found_reads n whole fraction given)
+    (internal-unit-reads u found b.found_has b.found_reads n whole fraction given)
 unit-at u table found alone b n whole fraction t given ih Plus e = word-unit u table found alone b n whole fraction t given (ap begins_unit e)
 unit-at u table found alone b n whole fraction t given ih Minus e = word-unit u table found alone b n whole fraction t given (ap begins_unit e)
 unit-at u table found alone b n whole fraction t given ih (Digit d) e = word-unit u table found alone b n whole fraction t given (ap begins_unit e)
@@ -133,20 +122,20 @@ no-fraction-digit : (table : Bool → ℕ → ℕ → List Given → Worth Scann
     → Same (Fraction table found n whole ds) (UnitOf table found n whole (fraction_from_digits (take 17 ds))) (AToken t)
 no-fraction-digit table found n whole ds t e =
     record { empty = λ w r. fraction_unit refl r; into = λ all w r. fraction_unit (ap (λ (o : Option ℕ). if_digit o (λ x. true) false) e) r; onto = onto } where
-  onto : (all : List Given) (w : Worth Scanned) → Fraction table found n whole ds (AToken t ∷ all) w → UnitOf table found n whole (fraction_from_digits (take 17 ds)) (AToken t ∷ all) w
-  onto all w (fraction_digit h r) = cc
-  onto all w (fraction_unit h r) = r
+      onto : (all : List Given) (w : Worth Scanned) → Fraction table found n whole ds (AToken t ∷ all) w → UnitOf table found n whole (fraction_from_digits (take 17 ds)) (AToken t ∷ all) w
+      onto all w (fraction_digit h r) = cc
+      onto all w (fraction_unit h r) = r
 
 fraction-at : (u : Uses) (table : Bool → ℕ → ℕ → List Given → Worth Scanned → Type 0) (found : Order → ℤ → List Given → Worth Scanned → Type 0) (alone : Bool → Quantity → List Given → Worth Scanned → Type 0) → Behind u table found alone
     → (n : Bool) (whole : ℕ) (ds : List ℕ) (t : Tok) (given : List Given)
     → ((es : List ℕ) → ReadsOr (Lacks u) (Fraction table found n whole es) given (fraction u n whole es given)) → (o : Option ℕ) → digit_of 10 t ≡ o
     → ReadsOr (Lacks u) (Fraction table found n whole ds) (AToken t ∷ given)
-        (if_digit o (λ d. fraction u n whole (ds ++ d ∷ []) given) (unit u n whole (fraction_from_digits (take 17 ds)) (AToken t ∷ given)))
+    (if_digit o (λ d. fraction u n whole (ds ++ d ∷ []) given) (unit u n whole (fraction_from_digits (take 17 ds)) (AToken t ∷ given)))
 fraction-at u table found alone b n whole ds t given ih (Some d) e =
     reads-or-behind (behind-fraction table found n whole ds t d e) (fraction-not-empty table found n whole ds) given (fraction u n whole (ds ++ d ∷ []) given) (ih (ds ++ d ∷ []))
 fraction-at u table found alone b n whole ds t given ih None e =
     reads-or-as (no-fraction-digit table found n whole ds t e) (fraction-not-empty table found n whole ds) given
-      (unit u n whole (fraction_from_digits (take 17 ds)) (AToken t ∷ given)) (unit-reads u table found alone b n whole (fraction_from_digits (take 17 ds)) (AToken t ∷ given))
+    (unit u n whole (fraction_from_digits (take 17 ds)) (AToken t ∷ given)) (unit-reads u table found alone b n whole (fraction_from_digits (take 17 ds)) (AToken t ∷ given))
 
 fraction-reads : (u : Uses) (table : Bool → ℕ → ℕ → List Given → Worth Scanned → Type 0) (found : Order → ℤ → List Given → Worth Scanned → Type 0) (alone : Bool → Quantity → List Given → Worth Scanned → Type 0) → Behind u table found alone
     → (n : Bool) (whole : ℕ) (ds : List ℕ) (given : List Given) → ReadsOr (Lacks u) (Fraction table found n whole ds) given (fraction u n whole ds given)
@@ -237,7 +226,7 @@ whole-reads u table found alone b n v w (alike_same e) g given d =
     subst (λ (x : ℕ). ReadsOr (Lacks u) (BehindWhole table found n v) (g ∷ given) (behind_whole u n x (g ∷ given))) e (whole-by u table found alone b n v g given d (nat_lt v 2147483648) refl)
 whole-reads u table found alone b n v w (alike_large l h) g given d =
     subst (λ (s : Bool). ReadsOr (Lacks u) (BehindWhole table found n v) (g ∷ given) (if s then point_or_unit u n w (g ∷ given) else Wrong NumberTooBig))
-      (sym (le-ltb w 2147483648 h)) (whole-by-large u table found alone b n v w g given d (le-ltb v 2147483648 l))
+    (sym (le-ltb w 2147483648 h)) (whole-by-large u table found alone b n v w g given d (le-ltb v 2147483648 l))
 
 -- ---- The whole part
 
@@ -272,15 +261,15 @@ digits-at : (u : Uses) (table : Bool → ℕ → ℕ → List Given → Worth Sc
     → ((x y : ℕ) → Alike x y → ReadsOr (Lacks u) (Digits 10 (BehindWhole table found n) x) given (digits 10 y (behind_whole u n) given))
     → (o : Option ℕ) → digit_of 10 t ≡ o
     → ReadsOr (Lacks u) (Digits 10 (BehindWhole table found n) v) (AToken t ∷ given)
-        (if_digit o (λ d. digits 10 (grown 10 w d) (behind_whole u n) given) (behind_whole u n w (AToken t ∷ given)))
+    (if_digit o (λ d. digits 10 (grown 10 w d) (behind_whole u n) given) (behind_whole u n w (AToken t ∷ given)))
 digits-at u table found alone b n v w a t given ih (Some d) e =
     reads-or-behind-full (behind-digit table found n v d t e) given
-      (λ x r none. none [] [] (given ++ []) (TooLarge NumberTooBig) refl
-        (last (large-goes-on table found n v (10 * v + d) x (omega arith) (last-empty table found n v x r))))
-      (digits 10 (grown 10 w d) (behind_whole u n) given) (ih (10 * v + d) (grown 10 w d) (grown-alike 10 v w d (λ x. omega arith) a))
+    (λ x r none. none [] [] (given ++ []) (TooLarge NumberTooBig) refl
+    (last (large-goes-on table found n v (10 * v + d) x (omega arith) (last-empty table found n v x r))))
+    (digits 10 (grown 10 w d) (behind_whole u n) given) (ih (10 * v + d) (grown 10 w d) (grown-alike 10 v w d (λ x. omega arith) a))
 digits-at u table found alone b n v w a t given ih None e =
     reads-or-among (among-same (no-digit table found n v t e) (last-empty table found n v) given) (behind_whole u n w (AToken t ∷ given))
-      (whole-reads u table found alone b n v w a (AToken t) given (λ all. ap (λ (o : Option ℕ). if_digit o (λ x. true) false) e))
+    (whole-reads u table found alone b n v w a (AToken t) given (λ all. ap (λ (o : Option ℕ). if_digit o (λ x. true) false) e))
 
 digits-go-on : (u : Uses) (table : Bool → ℕ → ℕ → List Given → Worth Scanned → Type 0) (found : Order → ℤ → List Given → Worth Scanned → Type 0) (alone : Bool → Quantity → List Given → Worth Scanned → Type 0) → Behind u table found alone
     → (n : Bool) (v : ℕ) (s : Bool) → nat_lt v 2147483648 ≡ s → GoesOn (Digits 10 (BehindWhole table found n) v) [] want.Expanded
@@ -297,10 +286,10 @@ digits-read u table found alone b n v w a (AToken t ∷ given) =
     digits-at u table found alone b n v w a t given (λ x y c. digits-read u table found alone b n x y c given) (digit_of 10 t) refl
 digits-read u table found alone b n v w a (AQuantity q ∷ given) =
     reads-or-among (among-same (record { empty = λ x k. last k; into = λ all x k. last k; onto = λ all x r. elim r [ last k ↦ k ] }) (last-empty table found n v) given)
-      (behind_whole u n w (AQuantity q ∷ given)) (whole-reads u table found alone b n v w a (AQuantity q) given (λ all. refl))
+    (behind_whole u n w (AQuantity q ∷ given)) (whole-reads u table found alone b n v w a (AQuantity q) given (λ all. refl))
 digits-read u table found alone b n v w a (End ∷ given) =
     reads-or-among (among-same (record { empty = λ x k. last k; into = λ all x k. last k; onto = λ all x r. elim r [ last k ↦ k ] }) (last-empty table found n v) given)
-      (behind_whole u n w (End ∷ given)) (whole-reads u table found alone b n v w a End given (λ all. refl))
+    (behind_whole u n w (End ∷ given)) (whole-reads u table found alone b n v w a End given (λ all. refl))
 
 -- ---- An internal quantity by itself
 
@@ -374,12 +363,17 @@ pub length-reads : (u : Uses) (table : Bool → ℕ → ℕ → List Given → W
     → (n : Bool) (given : List Given) → ReadsOr (Lacks u) (IsLength table found alone n) given (length_behind u n given)
 length-reads u table found alone b n [] =
     let h = b.unit_rest n 0 0 in
-    reads (record { next = AToken (Char category.Other 48); answers = expanded; more = AToken (Char category.Letter 112) ∷ h.some; worth = h.worth;
-      is = decimal {d = 0} refl (last (whole_small refl refl (no_point refl (unit_letters refl h.is)))) })
+    reads (record {
+      next = AToken (Char category.Other 48);
+      answers = expanded;
+      more = AToken (Char category.Letter 112) ∷ h.some;
+      worth = h.worth;
+      is = decimal {d = 0} refl (last (whole_small refl refl (no_point refl (unit_letters refl h.is))));
+    })
 length-reads u table found alone b n (AToken t ∷ given) =
     reads-or-behind (record { into = length-of table found alone (class_of t) n t refl; onto = after-of table found alone (class_of t) n t refl }) (length-not-empty table found alone n) given
-      (length_as (class_of t) u n (λ m. length_behind u m given) given)
-      (class-reads u table found alone b (class_of t) n given (λ m. length-reads u table found alone b m given))
+    (length_as (class_of t) u n (λ m. length_behind u m given) given)
+    (class-reads u table found alone b (class_of t) n given (λ m. length-reads u table found alone b m given))
 length-reads u table found alone b n (AQuantity q ∷ given) =
     none (inl refl) (nothing-begins (IsLength table found alone n) (AQuantity q) given (length-not-empty table found alone n) (λ all w r. elim r [ ]))
 length-reads u table found alone b n (End ∷ given) =

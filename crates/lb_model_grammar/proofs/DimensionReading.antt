@@ -1,28 +1,24 @@
 -- What is read of a dimension by itself.
-use Rattle.std.proofs.Common.{◌≡◌, ◌∙◌, ◌++◌, ◌+◌, ◌*◌, ◌/◌, ◌<◌, ◌≤◌, Bool, true, false, not, ℕ, ℤ, pos, nat_lt, List, [], ◌∷◌, length, Some, None, refl, ap, sym, subst, arith, inl, inr, take}
-use Rattle.std.specs.Prelude.{◌⊎◌, Option, if◌then◌else◌, min, nat_abs}
-use Rattle.std.proofs.lemmas.Bool.{le-ltb, ltb-false}
+use Rattle.std.proofs.Common.{◌≡◌, ◌++◌, ◌+◌, ◌*◌, ◌/◌, ◌≤◌, Bool, false, not, ℕ, ℤ, pos, List, [], ◌∷◌, length, refl, subst, arith, inl, inr, take}
+use Rattle.std.specs.Prelude.{◌⊎◌, nat_abs}
 use Rattle.lb_base.specs.Decimals.{fraction_from_digits}
 use Rattle.lb_base.specs.declared.fault.Kind.{Kind}
 use Rattle.lb_base.specs.declared.fault.Kind.TheVariants.{DimenTooLarge, NumberMissing, NumberTooBig, UnitMissing}
 use Rattle.lb_base.specs.declared.glue.Order.{Order}
 use Rattle.lb_base.specs.declared.glue.Order.TheVariants.{Finite}
 use Rattle.lb_base.specs.declared.token.Category.TheVariants as category
-use Rattle.lb_base.specs.declared.token.Tok.{Tok}
-use Rattle.lb_base.specs.declared.token.Tok.TheVariants.{Char, Word, Active, Param}
-use Rattle.lb_model_grammar.specs.declared.class.Class.{Class}
-use Rattle.lb_model_grammar.specs.declared.class.Class.TheVariants.{Space, Plus, Minus, Digit, Octal, Hexadecimal, Quote, Point, Command, Other}
+use Rattle.lb_base.specs.declared.token.Tok.TheVariants.{Char}
 use Rattle.lb_model_grammar.specs.declared.given.Given.{Given}
-use Rattle.lb_model_grammar.specs.declared.given.Given.TheVariants.{Tok as AToken, Quantity as AQuantity, End}
+use Rattle.lb_model_grammar.specs.declared.given.Given.TheVariants.{Tok as AToken, Quantity as AQuantity}
 use Rattle.lb_model_grammar.specs.declared.given.Quantity.{Quantity}
 use Rattle.lb_model_grammar.specs.declared.given.Quantity.TheVariants as quantity
 use Rattle.lb_model_grammar.specs.declared.given.Scanned.{Scanned}
 use Rattle.lb_model_grammar.specs.declared.given.Scanned.TheVariants as scanned
 use Rattle.lb_model_grammar.specs.declared.given.Want.{Want}
 use Rattle.lb_model_grammar.specs.declared.given.Want.TheVariants as want
-use Rattle.lb_model_grammar.specs.Dimensions.{Unit_of, Uses, dimension, dimension_alone, units, behind_whole, font_unit, fraction, in_unit, internal, internal_unit, is_negative, length_as, length_behind, point_or_unit, sized, times, unit, unit_as, xor}
+use Rattle.lb_model_grammar.specs.Dimensions.{Unit_of, Uses, dimension, dimension_alone, units, fraction, in_unit, is_negative, times, xor}
 use Rattle.lb_model_grammar.specs.Dimensions.Unit_of.{Infinite, OfFont, Physical, Scaled}
-use Rattle.lb_model_grammar.specs.LengthGrammar.{IsDimension, dimen_alone, found_alone, Alone, BehindWhole, FontSize, Fraction, InUnit, InternalUnit, IsLength, Multiple, OneOf, PointOrUnit, Sized, Spaced, UnitOf, begins_digit, begins_unit}
+use Rattle.lb_model_grammar.specs.LengthGrammar.{IsDimension, dimen_alone, found_alone, BehindWhole, FontSize, Fraction, InUnit, IsLength, Multiple, OneOf, Sized, Spaced, UnitOf}
 use Rattle.lb_model_grammar.specs.LengthGrammar.Alone.{by_itself}
 use Rattle.lb_model_grammar.specs.LengthGrammar.BehindWhole.{large as whole_large, small as whole_small}
 use Rattle.lb_model_grammar.specs.LengthGrammar.FontSize.{size}
@@ -35,24 +31,21 @@ use Rattle.lb_model_grammar.specs.LengthGrammar.Spaced.{bare, space}
 use Rattle.lb_model_grammar.specs.LengthGrammar.UnitOf.{blank as unit_blank, internal as unit_internal, letters as unit_letters}
 use Rattle.lb_model_grammar.specs.NumberGrammar.{Digits}
 use Rattle.lb_model_grammar.specs.NumberGrammar.Digits.{digit, last}
-use Rattle.lb_model_grammar.specs.Scans.{Meant, class_of, digit_of, digits, grown, if_digit, is_other, is_space, one_of, signed, space_before}
+use Rattle.lb_model_grammar.specs.Scans.{Meant, signed}
 use Rattle.lb_model_grammar.specs.Scans.Meant.{Open, Ended, Wrong}
-use Rattle.lb_model_grammar.specs.WordGrammar.{Letters, Nothing, begins_blank}
+use Rattle.lb_model_grammar.specs.WordGrammar.{Letters, Nothing}
 use Rattle.lb_model_grammar.specs.WordGrammar.Nothing.{more as nothing_more}
 use Rattle.lb_model_grammar.specs.WordGrammar.Letters.{ended, letter}
 use Rattle.lb_model_grammar.specs.LengthGrammar.OneOf.{here, there}
-use Rattle.lb_model_grammar.specs.Written.{Answers, GoesOn, IsRead, IsTooLarge, NoneBegins, Reads, ReadsOr, Worth}
-use Rattle.lb_model_grammar.specs.Written.Answers.{em, ex, expanded, quantity as a_quantity}
+use Rattle.lb_model_grammar.specs.Written.{GoesOn, IsRead, IsTooLarge, NoneBegins, Reads, ReadsOr, Worth}
+use Rattle.lb_model_grammar.specs.Written.Answers.{em, ex}
 use Rattle.lb_model_grammar.specs.Written.ReadsOr.{none, reads}
 use Rattle.lb_model_grammar.specs.Written.Worth.{TooLarge, Value}
 use Rattle.lb_model_grammar.proofs.DecimalReading.{length-reads}
 use Rattle.lb_model_grammar.proofs.LengthReading.{Behind, Lacks, font-reads, sized-has, spaced-has, spaced-size}
 use Rattle.lb_model_grammar.proofs.UnitReading.{Each, table-not-empty, table-reads}
 use Rattle.lb_model_grammar.proofs.UnitReading.Each.{next, no_more}
-use Rattle.lb_model_grammar.proofs.NumberReading.{Alike, grown-alike}
-use Rattle.lb_model_grammar.proofs.NumberReading.Alike.{large as alike_large, same as alike_same}
-use Rattle.lb_model_grammar.proofs.ReadingSteps.{Equal, Has, Same, Step, among-same, nothing-begins, reads-as, reads-behind, reads-equal, reads-or-among, reads-or-as, reads-or-behind, reads-or-behind-full}
-
+use Rattle.lb_model_grammar.proofs.ReadingSteps.{Has}
 
 pub units-each : (u : Uses) (found : Order → ℤ → List Given → Worth Scanned → Type 0) → ((order : Order) (v : ℤ) → Has (found order v))
     → ((order : Order) (v : ℤ) (given : List Given) → Reads (found order v) given (u.found order v given))
@@ -62,17 +55,19 @@ units-each u found h r n whole fraction =
     (next scaled.some scaled.worth scaled.is (λ rest. reads (spaced-size u found h r n Finite whole rest))
     (next font.some font.worth font.is (font-reads u found h r want.Em em n whole fraction)
     (next font.some font.worth font.is (font-reads u found h r want.Ex ex n whole fraction) no_more)))))))))) where
-  scaled : Has (Spaced (Sized found n Finite whole))
-  scaled = spaced-has (Sized found n Finite whole) (sized-has found h n Finite whole)
-  font : Has (FontSize found n whole fraction)
-  font =
-      let k : Has (Spaced (Multiple found n whole fraction (pos 0))) = spaced-has (Multiple found n whole fraction (pos 0)) (sized-has found h (xor n false) Finite (times whole fraction 0)) in
-      record { some = AQuantity (quantity.Dimen (pos 0)) ∷ k.some; worth = k.worth; is = size k.is }
-  physical : (a b : ℕ) {word : List ℕ} {table : List (List ℕ × Unit_of)} → Each (Lacks u) (InUnit found n whole fraction) (in_unit u n whole fraction) table
-      → Each (Lacks u) (InUnit found n whole fraction) (in_unit u n whole fraction) ((word, Physical a b) ∷ table)
-  physical a b each =
-      let k : Has (Spaced (Sized found n Finite (a * (65536 * whole + fraction) / b))) = spaced-has (Sized found n Finite (a * (65536 * whole + fraction) / b)) (sized-has found h n Finite (a * (65536 * whole + fraction) / b)) in
-      next k.some k.worth k.is (λ rest. reads (spaced-size u found h r n Finite (a * (65536 * whole + fraction) / b) rest)) each
+      scaled : Has (Spaced (Sized found n Finite whole))
+      scaled = spaced-has (Sized found n Finite whole) (sized-has found h n Finite whole)
+
+      font : Has (FontSize found n whole fraction)
+      font =
+          let k : Has (Spaced (Multiple found n whole fraction (pos 0))) = spaced-has (Multiple found n whole fraction (pos 0)) (sized-has found h (xor n false) Finite (times whole fraction 0)) in
+          record { some = AQuantity (quantity.Dimen (pos 0)) ∷ k.some; worth = k.worth; is = size k.is }
+
+      physical : (a b : ℕ) {word : List ℕ} {table : List (List ℕ × Unit_of)} → Each (Lacks u) (InUnit found n whole fraction) (in_unit u n whole fraction) table
+          → Each (Lacks u) (InUnit found n whole fraction) (in_unit u n whole fraction) ((word, Physical a b) ∷ table)
+      physical a b each =
+          let k : Has (Spaced (Sized found n Finite (a * (65536 * whole + fraction) / b))) = spaced-has (Sized found n Finite (a * (65536 * whole + fraction) / b)) (sized-has found h n Finite (a * (65536 * whole + fraction) / b)) in
+          next k.some k.worth k.is (λ rest. reads (spaced-size u found h r n Finite (a * (65536 * whole + fraction) / b) rest)) each
 
 -- a unit that begins with p
 pub point-rest : (found : Order → ℤ → List Given → Worth Scanned → Type 0) → ((order : Order) (v : ℤ) → Has (found order v)) → (n : Bool) (whole fraction : ℕ)
@@ -103,7 +98,7 @@ dimension-behind = record {
   alone_reads = alone_reads;
   alone_has = λ n. nothing-has (scanned.Dimen (signed n (pos 0)));
   units_read = λ n whole fraction given. table-reads (Lacks by_itself_uses) (InUnit found_alone n whole fraction) (in_unit by_itself_uses n whole fraction) (Wrong UnitMissing) (inr refl) units refl
-    (units-each by_itself_uses found_alone (λ order v. nothing-has (scanned.Dimen v)) (λ order v all. nothing-more (scanned.Dimen v) all) n whole fraction) given;
+      (units-each by_itself_uses found_alone (λ order v. nothing-has (scanned.Dimen v)) (λ order v all. nothing-more (scanned.Dimen v) all) n whole fraction) given;
   units_filled = λ n whole fraction w. table-not-empty (InUnit found_alone n whole fraction) units w refl;
   unit_rest = point-rest found_alone (λ order v. nothing-has (scanned.Dimen v));
 } where
@@ -230,13 +225,14 @@ IsFine (TooLarge kind) = (kind ≡ DimenTooLarge) ⊎ (kind ≡ NumberTooBig)
 dimension-fine : (all : List Given) (w : Worth Scanned) → IsDimension all w → IsFine w
 dimension-fine all w r = length-all IsFine (inl refl) (inr refl) units_alone found_alone dimen_alone found_fine
     (λ n whole fraction. one-of-all IsFine (InUnit found_alone n whole fraction) (in-unit-all IsFine (inl refl) found_alone found_fine n whole fraction) units) alone_fine false all w r where
-  found_fine : (order : Order) (v : ℤ) (all : List Given) (w : Worth Scanned) → found_alone order v all w → IsFine w
-  found_fine order v _ _ nothing_more = tt
-  alone_fine : (n : Bool) (q : Quantity) (all : List Given) (w : Worth Scanned) → dimen_alone n q all w → IsFine w
-  alone_fine n (quantity.Dimen v) _ _ nothing_more = tt
-  alone_fine n quantity.NotOne all w r = absurd r
-  alone_fine n (quantity.Number v) all w r = absurd r
-  alone_fine n (quantity.Skip v) all w r = absurd r
+      found_fine : (order : Order) (v : ℤ) (all : List Given) (w : Worth Scanned) → found_alone order v all w → IsFine w
+      found_fine order v _ _ nothing_more = tt
+
+      alone_fine : (n : Bool) (q : Quantity) (all : List Given) (w : Worth Scanned) → dimen_alone n q all w → IsFine w
+      alone_fine n (quantity.Dimen v) _ _ nothing_more = tt
+      alone_fine n quantity.NotOne all w r = absurd r
+      alone_fine n (quantity.Number v) all w r = absurd r
+      alone_fine n (quantity.Skip v) all w r = absurd r
 
 pub dimension-missing : (given : List Given) (kind : Kind) → dimension given ≡ Wrong kind → (kind ≡ NumberMissing) ⊎ (kind ≡ UnitMissing) → NoneBegins IsDimension given
 dimension-missing given kind e h = by (dimension-wrong given kind e) where

@@ -1,9 +1,9 @@
 -- What is read of the units of glue, and where a keyword stands.
-use Rattle.std.proofs.Common.{◌≡◌, ◌∙◌, ◌++◌, ◌≤◌, ◌+◌, ◌*◌, Bool, true, false, ℕ, ℤ, List, [], ◌∷◌, length, codes, refl, ap, sym, subst, arith, inl, inr}
-use Rattle.std.specs.Prelude.{if◌then◌else◌, ◌⊎◌}
+use Rattle.std.proofs.Common.{◌≡◌, ◌∙◌, ◌++◌, ◌+◌, ◌*◌, Bool, true, false, ℕ, ℤ, List, [], ◌∷◌, codes, refl, ap, sym, subst, inr}
+use Rattle.std.specs.Prelude.{if◌then◌else◌}
 use Rattle.lb_base.specs.declared.fault.Kind.TheVariants.{UnitMissing}
 use Rattle.lb_base.specs.declared.glue.Order.{Order}
-use Rattle.lb_base.specs.declared.glue.Order.TheVariants.{Finite, Fil, Fill, Filll}
+use Rattle.lb_base.specs.declared.glue.Order.TheVariants.{Fil, Fill, Filll}
 use Rattle.lb_base.specs.declared.token.Category.TheVariants as category
 use Rattle.lb_base.specs.declared.token.Tok.{Tok}
 use Rattle.lb_base.specs.declared.token.Tok.TheVariants.{Char}
@@ -11,29 +11,28 @@ use Rattle.lb_model_grammar.specs.declared.given.Given.{Given}
 use Rattle.lb_model_grammar.specs.declared.given.Given.TheVariants.{Tok as AToken, Quantity as AQuantity, End}
 use Rattle.lb_model_grammar.specs.declared.given.Scanned.{Scanned}
 use Rattle.lb_model_grammar.specs.declared.given.Want.TheVariants as want
-use Rattle.lb_model_grammar.specs.Dimensions.{Unit_of, Uses, glue_units, in_unit, sized, units}
+use Rattle.lb_model_grammar.specs.Dimensions.{Uses, glue_units, in_unit, sized, units}
 use Rattle.lb_model_grammar.specs.Dimensions.Unit_of.{Infinite}
-use Rattle.lb_model_grammar.specs.GlueGrammar.{Fils, GlueUnit, begins_l}
+use Rattle.lb_model_grammar.specs.GlueGrammar.{Fils, GlueUnit}
 use Rattle.lb_model_grammar.specs.GlueGrammar.Fils.{fil, fill, filll, second, third}
 use Rattle.lb_model_grammar.specs.GlueGrammar.GlueUnit.{finite, infinite}
-use Rattle.lb_model_grammar.specs.LengthGrammar.{InUnit, OneOf, Sized, Spaced}
+use Rattle.lb_model_grammar.specs.LengthGrammar.{InUnit, OneOf, Sized}
 use Rattle.lb_model_grammar.specs.LengthGrammar.Spaced.{space as a_space}
-use Rattle.lb_model_grammar.specs.Scans.{Meant, is_letter, is_space, keyword, letters, one_of, space_before}
-use Rattle.lb_model_grammar.specs.Scans.Meant.{Open, Ended, Wrong}
-use Rattle.lb_model_grammar.specs.WordGrammar.{Keyword, Letters, begins_blank}
-use Rattle.lb_model_grammar.specs.WordGrammar.Keyword.{blank, letters as the_letters}
-use Rattle.lb_model_grammar.specs.Written.{GoesOn, NoneBegins, Reads, ReadsOr, Worth}
+use Rattle.lb_model_grammar.specs.Scans.{Meant, is_letter, letters, one_of, space_before}
+use Rattle.lb_model_grammar.specs.Scans.Meant.{Open}
+use Rattle.lb_model_grammar.specs.WordGrammar.{Letters}
+use Rattle.lb_model_grammar.specs.Written.{Reads, ReadsOr, Worth}
 use Rattle.lb_model_grammar.specs.Written.Answers.{expanded}
-use Rattle.lb_model_grammar.specs.Written.ReadsOr.{none, reads}
+use Rattle.lb_model_grammar.specs.Written.ReadsOr.{reads}
 use Rattle.lb_model_grammar.proofs.DimensionReading.{units-each}
-use Rattle.lb_model_grammar.proofs.LengthReading.{Lacks, sized-has, spaced-has, spaced-size}
-use Rattle.lb_model_grammar.proofs.ReadingSteps.{Equal, Has, Same, Step, reads-as, reads-behind, reads-equal, reads-or-among, reads-or-as, reads-or-behind}
-use Rattle.lb_model_grammar.proofs.UnitReading.{Differs, Fate, Front, Left, apart, apart-differs, fate, front-differs, front-reads, goes-on, letters-differs, table-differs, table-not-empty, table-reads}
+use Rattle.lb_model_grammar.proofs.LengthReading.{Lacks, sized-has, spaced-size}
+use Rattle.lb_model_grammar.proofs.ReadingSteps.{Equal, Has, Same, Step, reads-as, reads-behind, reads-equal, reads-or-among}
+use Rattle.lb_model_grammar.proofs.UnitReading.{Differs, Fate, Front, Left, fate, front-differs, front-reads, goes-on, letters-differs, table-differs, table-not-empty, table-reads}
 use Rattle.lb_model_grammar.proofs.UnitReading.Differs.{also as differs_also, end, quantity, token}
 use Rattle.lb_model_grammar.proofs.UnitReading.Fate.{differs, short, whole as all_there}
 use Rattle.lb_model_grammar.proofs.UnitReading.Front.{also as front_also, done}
 use Rattle.lb_model_grammar.proofs.UnitReading.Left.{all_left, also as left_also}
-use Rattle.lb_model_grammar.proofs.WordReading.{behind-blank, no-blank, no-keyword, spelled}
+use Rattle.lb_model_grammar.proofs.WordReading.{spelled}
 
 -- ---- Letters behind those that stand there
 
@@ -106,7 +105,7 @@ second-at : (K : Order → List Given → Worth Scanned → Type 0) (read : Orde
     → ((order : Order) (given : List Given) → Reads (K order) given (read order given))
     → (t : Tok) (given : List Given) (b : Bool) → is_letter 108 t ≡ b
     → Reads (Fils K Fil) (AToken t ∷ given)
-        (if b then letters (108 ∷ []) (read Filll) (if b then read Fill given else read Fil (AToken t ∷ given)) given else (if b then read Fill given else read Fil (AToken t ∷ given)))
+    (if b then letters (108 ∷ []) (read Filll) (if b then read Fill given else read Fil (AToken t ∷ given)) given else (if b then read Fill given else read Fil (AToken t ∷ given)))
 second-at K read h r t given true e =
     reads-behind (behind-second K t e) given (letters (108 ∷ []) (read Filll) (read Fill given) given) (third-reads K read h r given)
 second-at K read h r t given false e = reads-as (no-second K t e) given (read Fil (AToken t ∷ given)) (r Fil (AToken t ∷ given))
@@ -138,44 +137,46 @@ fils-at : (F : Meant Scanned → Type 0) (found : Order → ℤ → List Given �
 fils-at F found n whole fraction read h r other given o (short c left l s) =
     let k = h Fil in
     subst (λ (m : Meant Scanned). ReadsOr F (GlueUnit found n whole fraction) given m)
-      (sym (left-letters (read Filll) (letters (codes "fill") (read Fill) (letters (codes "fil") (read Fil) other given) given) (codes "ll") (codes "fil") given c left l))
-      (reads (record {
-        next = AToken (Char category.Letter c);
-        answers = expanded;
-        more = spelled left (AToken (Char category.Space 32) ∷ k.some);
-        worth = k.worth;
-        is = infinite (goes-on (Fils (λ order. InUnit found n whole fraction (Infinite order)) Fil) (AToken (Char category.Space 32) ∷ k.some) k.worth (fil refl k.is) (codes "fil") given c left l);
-      }))
+    (sym (left-letters (read Filll) (letters (codes "fill") (read Fill) (letters (codes "fil") (read Fil) other given) given) (codes "ll") (codes "fil") given c left l))
+    (reads (record {
+      next = AToken (Char category.Letter c);
+      answers = expanded;
+      more = spelled left (AToken (Char category.Space 32) ∷ k.some);
+      worth = k.worth;
+      is = infinite (goes-on (Fils (λ order. InUnit found n whole fraction (Infinite order)) Fil) (AToken (Char category.Space 32) ∷ k.some) k.worth (fil refl k.is) (codes "fil") given c left l);
+    }))
 fils-at F found n whole fraction read h r other given o (all_there rest l s) =
     subst (λ (m : Meant Scanned). ReadsOr F (GlueUnit found n whole fraction) given m) (sym same)
-      (reads-or-among (record { into = λ more all after w e i. infinite i; onto = onto }) _
-        (front-reads F (Fils (λ order. InUnit found n whole fraction (Infinite order)) Fil) _ (codes "fil") given rest l
-          (reads (second-reads (λ order. InUnit found n whole fraction (Infinite order)) read h r rest))))
-    where
-  onto : (more all after : List Given) (w : Worth Scanned) → given ++ more ≡ all ++ after → GlueUnit found n whole fraction all w
-      → Letters (Fils (λ order. InUnit found n whole fraction (Infinite order)) Fil) (codes "fil") all w
-  onto more all after w e (infinite i) = i
-  onto more all after w e (finite i) =
-      absurd (front-differs (codes "fil") given rest all more after l (table-differs (InUnit found n whole fraction) (codes "fil") units all w refl i) e)
-  same : fils read other given ≡ letters (108 ∷ 108 ∷ []) (read Filll) (letters (108 ∷ []) (read Fill) (read Fil rest) rest) rest
-  same =
-      front-letters (read Filll) (letters (codes "fill") (read Fill) (letters (codes "fil") (read Fil) other given) given) (codes "ll") (codes "fil") given rest l
-      ∙ ap (λ m. letters (108 ∷ 108 ∷ []) (read Filll) m rest)
+    (reads-or-among (record { into = λ more all after w e i. infinite i; onto = onto }) _
+    (front-reads F (Fils (λ order. InUnit found n whole fraction (Infinite order)) Fil) _ (codes "fil") given rest l
+    (reads (second-reads (λ order. InUnit found n whole fraction (Infinite order)) read h r rest))))
+  where
+    onto : (more all after : List Given) (w : Worth Scanned) → given ++ more ≡ all ++ after → GlueUnit found n whole fraction all w
+        → Letters (Fils (λ order. InUnit found n whole fraction (Infinite order)) Fil) (codes "fil") all w
+    onto more all after w e (infinite i) = i
+    onto more all after w e (finite i) =
+        absurd (front-differs (codes "fil") given rest all more after l (table-differs (InUnit found n whole fraction) (codes "fil") units all w refl i) e)
+
+    same : fils read other given ≡ letters (108 ∷ 108 ∷ []) (read Filll) (letters (108 ∷ []) (read Fill) (read Fil rest) rest) rest
+    same =
+        front-letters (read Filll) (letters (codes "fill") (read Fill) (letters (codes "fil") (read Fil) other given) given) (codes "ll") (codes "fil") given rest l
+        ∙ ap (λ m. letters (108 ∷ 108 ∷ []) (read Filll) m rest)
         (front-letters (read Fill) (letters (codes "fil") (read Fil) other given) (codes "l") (codes "fil") given rest l
-         ∙ ap (λ m. letters (108 ∷ []) (read Fill) m rest) (front-letters (read Fil) other [] (codes "fil") given rest l))
+        ∙ ap (λ m. letters (108 ∷ []) (read Fill) m rest) (front-letters (read Fil) other [] (codes "fil") given rest l))
 fils-at F found n whole fraction read h r other given o (differs d s) =
     subst (λ (m : Meant Scanned). ReadsOr F (GlueUnit found n whole fraction) given m) (sym same)
-      (reads-or-among (record { into = λ more all after w e i. finite i; onto = onto }) other o)
-    where
-  onto : (more all after : List Given) (w : Worth Scanned) → given ++ more ≡ all ++ after → GlueUnit found n whole fraction all w → OneOf (InUnit found n whole fraction) units all w
-  onto more all after w e (infinite i) =
-      absurd (letters-differs (Fils (λ order. InUnit found n whole fraction (Infinite order)) Fil) (codes "fil") given all more after w d i e)
-  onto more all after w e (finite i) = i
-  same : fils read other given ≡ other
-  same =
-      differs-letters (read Filll) (letters (codes "fill") (read Fill) (letters (codes "fil") (read Fil) other given) given) (codes "ll") (codes "fil") given d
-      ∙ differs-letters (read Fill) (letters (codes "fil") (read Fil) other given) (codes "l") (codes "fil") given d
-      ∙ differs-letters (read Fil) other [] (codes "fil") given d
+    (reads-or-among (record { into = λ more all after w e i. finite i; onto = onto }) other o)
+  where
+    onto : (more all after : List Given) (w : Worth Scanned) → given ++ more ≡ all ++ after → GlueUnit found n whole fraction all w → OneOf (InUnit found n whole fraction) units all w
+    onto more all after w e (infinite i) =
+        absurd (letters-differs (Fils (λ order. InUnit found n whole fraction (Infinite order)) Fil) (codes "fil") given all more after w d i e)
+    onto more all after w e (finite i) = i
+
+    same : fils read other given ≡ other
+    same =
+        differs-letters (read Filll) (letters (codes "fill") (read Fill) (letters (codes "fil") (read Fil) other given) given) (codes "ll") (codes "fil") given d
+        ∙ differs-letters (read Fill) (letters (codes "fil") (read Fil) other given) (codes "l") (codes "fil") given d
+        ∙ differs-letters (read Fil) other [] (codes "fil") given d
 
 pub glue-units-read : (u : Uses) (found : Order → ℤ → List Given → Worth Scanned → Type 0) → ((order : Order) (v : ℤ) → Has (found order v))
     → ((order : Order) (v : ℤ) (given : List Given) → Reads (found order v) given (u.found order v given))
@@ -183,12 +184,12 @@ pub glue-units-read : (u : Uses) (found : Order → ℤ → List Given → Worth
     → ReadsOr (Lacks u) (GlueUnit found n whole fraction) given (one_of glue_units (in_unit u n whole fraction) (u.missing UnitMissing) given)
 glue-units-read u found h r n whole fraction given =
     fils-at (Lacks u) found n whole fraction (λ order. space_before (sized u n order (65536 * whole + fraction)))
-      (λ order. let k : Has (Sized found n order (65536 * whole + fraction)) = sized-has found h n order (65536 * whole + fraction) in
-        record { some = k.some; worth = k.worth; is = a_space refl k.is })
-      (λ order all. spaced-size u found h r n order (65536 * whole + fraction) all)
-      (one_of units (in_unit u n whole fraction) (u.missing UnitMissing) given) given
-      (table-reads (Lacks u) (InUnit found n whole fraction) (in_unit u n whole fraction) (u.missing UnitMissing) (inr refl) units refl (units-each u found h r n whole fraction) given)
-      (fate (codes "fil") given)
+    (λ order. let k : Has (Sized found n order (65536 * whole + fraction)) = sized-has found h n order (65536 * whole + fraction) in
+    record { some = k.some; worth = k.worth; is = a_space refl k.is })
+    (λ order all. spaced-size u found h r n order (65536 * whole + fraction) all)
+    (one_of units (in_unit u n whole fraction) (u.missing UnitMissing) given) given
+    (table-reads (Lacks u) (InUnit found n whole fraction) (in_unit u n whole fraction) (u.missing UnitMissing) (inr refl) units refl (units-each u found h r n whole fraction) given)
+    (fate (codes "fil") given)
 
 pub glue-unit-filled : (found : Order → ℤ → List Given → Worth Scanned → Type 0) (n : Bool) (whole fraction : ℕ) (w : Worth Scanned) → GlueUnit found n whole fraction [] w → ⊥
 glue-unit-filled found n whole fraction w (infinite l) = elim l [ ]

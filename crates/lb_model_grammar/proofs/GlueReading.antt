@@ -1,5 +1,5 @@
 -- What is read of glue, by the grammar.
-use Rattle.std.proofs.Common.{◌≡◌, ◌∙◌, ◌++◌, ◌≤◌, Bool, true, false, ℕ, ℤ, pos, List, [], ◌∷◌, length, codes, refl, ap, sym, subst, arith, inl, inr}
+use Rattle.std.proofs.Common.{◌≡◌, ◌∙◌, ◌++◌, ◌≤◌, Bool, false, ℕ, ℤ, pos, List, [], ◌∷◌, length, codes, refl, sym, subst, arith, inl, inr}
 use Rattle.std.specs.Prelude.{◌⊎◌}
 use Rattle.lb_base.specs.declared.fault.Kind.{Kind}
 use Rattle.lb_base.specs.declared.fault.Kind.TheVariants.{DimenTooLarge, NumberMissing, NumberTooBig, UnitMissing}
@@ -7,7 +7,6 @@ use Rattle.lb_base.specs.declared.glue.Glue.{Glue}
 use Rattle.lb_base.specs.declared.glue.Order.{Order}
 use Rattle.lb_base.specs.declared.glue.Order.TheVariants.{Finite, Fil, Fill, Filll}
 use Rattle.lb_base.specs.declared.token.Category.TheVariants as category
-use Rattle.lb_base.specs.declared.token.Tok.{Tok}
 use Rattle.lb_base.specs.declared.token.Tok.TheVariants.{Char}
 use Rattle.lb_model_grammar.specs.declared.given.Given.{Given}
 use Rattle.lb_model_grammar.specs.declared.given.Given.TheVariants.{Tok as AToken}
@@ -16,7 +15,6 @@ use Rattle.lb_model_grammar.specs.declared.given.Quantity.TheVariants as quantit
 use Rattle.lb_model_grammar.specs.declared.given.Scanned.{Scanned}
 use Rattle.lb_model_grammar.specs.declared.given.Scanned.TheVariants.{Skip}
 use Rattle.lb_model_grammar.specs.declared.given.Want.{Want}
-use Rattle.lb_model_grammar.specs.declared.given.Want.TheVariants as want
 use Rattle.lb_model_grammar.specs.Dimensions.{Uses, glue, glue_alone, glue_units, in_unit, length_behind, of_width, shrink, shrink_alone, signed_glue, stretch, stretch_alone, units}
 use Rattle.lb_model_grammar.specs.GlueGrammar.{Fils, GlueUnit, IsGlue, Shrink, Stretch, glue_by, glue_found, shrink_by, shrink_found, shrunk, stretch_by, stretch_found, stretched}
 use Rattle.lb_model_grammar.specs.GlueGrammar.Fils.{fil, fill, filll, second, third}
@@ -25,7 +23,7 @@ use Rattle.lb_model_grammar.specs.GlueGrammar.Shrink.{minus, nothing as no_shrin
 use Rattle.lb_model_grammar.specs.GlueGrammar.Stretch.{nothing as no_stretch, plus}
 use Rattle.lb_model_grammar.specs.Dimensions.Unit_of.{Infinite}
 use Rattle.lb_model_grammar.specs.LengthGrammar.{InUnit, IsLength, OneOf}
-use Rattle.lb_model_grammar.specs.Scans.{Meant, keyword, signed}
+use Rattle.lb_model_grammar.specs.Scans.{Meant, signed}
 use Rattle.lb_model_grammar.specs.Scans.Meant.{Open, Ended, Wrong}
 use Rattle.lb_model_grammar.specs.WordGrammar.{Keyword, Nothing}
 use Rattle.lb_model_grammar.specs.WordGrammar.Keyword.{blank as key_blank, letters as key_letters}
@@ -55,18 +53,18 @@ or-nothing G H x given (Open want) (reads r) into onto empty =
     record { next = r.next; answers = r.answers; more = r.more; worth = r.worth; is = into (given ++ r.next ∷ r.more) r.worth r.is }
 or-nothing G H x given (Ended y rest) (reads r) into onto empty =
     record { read = r.read; parts = r.parts; is = into r.read (Value y) r.is; longest = longest } where
-  longest : (more all behind : List Given) (w : Worth Scanned) → given ++ more ≡ all ++ behind → G all w → length all ≤ length r.read
-  longest more all behind w e i = by (onto more all behind w e i) where
-    by : (length all ≤ 0) ⊎ H all w → length all ≤ length r.read
-    by (inl l) = omega (arith, l)
-    by (inr h) = r.longest more all behind w e h
+      longest : (more all behind : List Given) (w : Worth Scanned) → given ++ more ≡ all ++ behind → G all w → length all ≤ length r.read
+      longest more all behind w e i = by (onto more all behind w e i) where
+        by : (length all ≤ 0) ⊎ H all w → length all ≤ length r.read
+        by (inl l) = omega (arith, l)
+        by (inr h) = r.longest more all behind w e h
 or-nothing G H x given (Wrong kind) (reads r) into onto empty =
     record { rest = r.rest; is = record { read = r.is.read; parts = r.is.parts; is = into r.is.read (TooLarge kind) r.is.is; longest = longest } } where
-  longest : (more all behind : List Given) (w : Worth Scanned) → given ++ more ≡ all ++ behind → G all w → length all ≤ length r.is.read
-  longest more all behind w e i = by (onto more all behind w e i) where
-    by : (length all ≤ 0) ⊎ H all w → length all ≤ length r.is.read
-    by (inl l) = omega (arith, l)
-    by (inr h) = r.is.longest more all behind w e h
+      longest : (more all behind : List Given) (w : Worth Scanned) → given ++ more ≡ all ++ behind → G all w → length all ≤ length r.is.read
+      longest more all behind w e i = by (onto more all behind w e i) where
+        by : (length all ≤ 0) ⊎ H all w → length all ≤ length r.is.read
+        by (inl l) = omega (arith, l)
+        by (inr h) = r.is.longest more all behind w e h
 or-nothing G H x given m (none f n) into onto empty = subst (λ (k : Meant Scanned). Reads G given k) (sym f) (record { read = []; parts = refl; is = empty; longest = longest }) where
   longest : (more all behind : List Given) (w : Worth Scanned) → given ++ more ≡ all ++ behind → G all w → length all ≤ 0
   longest more all behind w e i = by (onto more all behind w e i) where
@@ -101,6 +99,7 @@ shrink-behind g before = record {
   alone_reads n quantity.NotOne given = none (inl refl) (λ more all behind w e r. r)
   alone_reads n (quantity.Number q) given = none (inl refl) (λ more all behind w e r. r)
   alone_reads n (quantity.Skip q) given = none (inl refl) (λ more all behind w e r. r)
+
   unit_rest : (n : Bool) (whole fraction : ℕ) → Has (λ all w. GlueUnit (shrink_found g) n whole fraction (AToken (Char category.Letter 112) ∷ all) w)
   unit_rest n whole fraction =
       let h = point-rest (shrink_found g) (λ order v. nothing-has (Skip (shrunk g order v))) n whole fraction in
@@ -117,19 +116,19 @@ shrink-by-fate : (g : Glue) (given : List Given) → WordFate (codes "minus") gi
 shrink-by-fate g given (word_short c left l s) =
     let h = length-has (shrink_uses g given) (GlueUnit (shrink_found g)) (shrink_found g) (shrink_by g) (shrink-behind g given) false in
     subst (λ (m : Meant Scanned). Reads (Shrink g) given m) (sym (s (length_behind (shrink_uses g given) false) (Ended (Skip g) given)))
-      (record { next = AToken (Char category.Letter c); answers = expanded; more = spelled left h.some; worth = h.worth; is = minus (word-goes-on (Shrinks g) h.some h.worth h.is (codes "minus") given c left l) })
+    (record { next = AToken (Char category.Letter c); answers = expanded; more = spelled left h.some; worth = h.worth; is = minus (word-goes-on (Shrinks g) h.some h.worth h.is (codes "minus") given c left l) })
 shrink-by-fate g given (word_whole rest l s) =
     subst (λ (m : Meant Scanned). Reads (Shrink g) given m) (sym (s (length_behind (shrink_uses g given) false) (Ended (Skip g) given)))
-      (or-nothing (Shrink g) (Keyword (Shrinks g) (codes "minus")) (Skip g) given (length_behind (shrink_uses g given) false rest)
-        (lack (shrink_uses g given) (Skip g) given (Keyword (Shrinks g) (codes "minus")) given (length_behind (shrink_uses g given) false rest) refl refl
-          (word-front-reads (Lacks (shrink_uses g given)) (Shrinks g) (length_behind (shrink_uses g given) false rest) 109 (codes "inus") given rest l
-            (length-reads (shrink_uses g given) (GlueUnit (shrink_found g)) (shrink_found g) (shrink_by g) (shrink-behind g given) false rest)))
-        (λ all w k. minus k) (λ more all behind w e i. shrink-onto g all w i) no_shrink)
+    (or-nothing (Shrink g) (Keyword (Shrinks g) (codes "minus")) (Skip g) given (length_behind (shrink_uses g given) false rest)
+    (lack (shrink_uses g given) (Skip g) given (Keyword (Shrinks g) (codes "minus")) given (length_behind (shrink_uses g given) false rest) refl refl
+    (word-front-reads (Lacks (shrink_uses g given)) (Shrinks g) (length_behind (shrink_uses g given) false rest) 109 (codes "inus") given rest l
+    (length-reads (shrink_uses g given) (GlueUnit (shrink_found g)) (shrink_found g) (shrink_by g) (shrink-behind g given) false rest)))
+    (λ all w k. minus k) (λ more all behind w e i. shrink-onto g all w i) no_shrink)
 shrink-by-fate g given (word_differs d s) =
     subst (λ (m : Meant Scanned). Reads (Shrink g) given m) (sym (s (length_behind (shrink_uses g given) false) (Ended (Skip g) given)))
-      (or-nothing (Shrink g) (Keyword (Shrinks g) (codes "minus")) (Skip g) given (Ended (Skip g) given)
-        (none refl (λ more all behind w e k. word-not-there (Shrinks g) 109 (codes "inus") given all more behind w d k e))
-        (λ all w k. minus k) (λ more all behind w e i. shrink-onto g all w i) no_shrink)
+    (or-nothing (Shrink g) (Keyword (Shrinks g) (codes "minus")) (Skip g) given (Ended (Skip g) given)
+    (none refl (λ more all behind w e k. word-not-there (Shrinks g) 109 (codes "inus") given all more behind w d k e))
+    (λ all w k. minus k) (λ more all behind w e i. shrink-onto g all w i) no_shrink)
 
 shrink-reads : (g : Glue) (given : List Given) → Reads (Shrink g) given (shrink g given)
 shrink-reads g given = shrink-by-fate g given (word-fate 109 (codes "inus") given)
@@ -157,6 +156,7 @@ stretch-behind g before = record {
   alone_reads n quantity.NotOne given = none (inl refl) (λ more all behind w e r. r)
   alone_reads n (quantity.Number q) given = none (inl refl) (λ more all behind w e r. r)
   alone_reads n (quantity.Skip q) given = none (inl refl) (λ more all behind w e r. r)
+
   unit_rest : (n : Bool) (whole fraction : ℕ) → Has (λ all w. GlueUnit (stretch_found g) n whole fraction (AToken (Char category.Letter 112) ∷ all) w)
   unit_rest n whole fraction =
       let h = point-rest (stretch_found g) (λ order v. shrink-has (stretched g order v)) n whole fraction in
@@ -176,21 +176,21 @@ stretch-by-fate : (g : Glue) (given : List Given) → WordFate (codes "plus") gi
 stretch-by-fate g given (word_short c left l s) =
     let h = length-has (stretch_uses g given) (GlueUnit (stretch_found g)) (stretch_found g) (stretch_by g) (stretch-behind g given) false in
     subst (λ (m : Meant Scanned). Reads (Stretch g) given m) (sym (s (length_behind (stretch_uses g given) false) (shrink g given)))
-      (record { next = AToken (Char category.Letter c); answers = expanded; more = spelled left h.some; worth = h.worth; is = plus (word-goes-on (Stretches g) h.some h.worth h.is (codes "plus") given c left l) })
+    (record { next = AToken (Char category.Letter c); answers = expanded; more = spelled left h.some; worth = h.worth; is = plus (word-goes-on (Stretches g) h.some h.worth h.is (codes "plus") given c left l) })
 stretch-by-fate g given (word_whole rest l s) =
     subst (λ (m : Meant Scanned). Reads (Stretch g) given m) (sym (s (length_behind (stretch_uses g given) false) (shrink g given)))
-      (or-nothing (Stretch g) (Keyword (Stretches g) (codes "plus")) (Skip g) given (length_behind (stretch_uses g given) false rest)
-        (lack (stretch_uses g given) (Skip g) given (Keyword (Stretches g) (codes "plus")) given (length_behind (stretch_uses g given) false rest) refl refl
-          (word-front-reads (Lacks (stretch_uses g given)) (Stretches g) (length_behind (stretch_uses g given) false rest) 112 (codes "lus") given rest l
-            (length-reads (stretch_uses g given) (GlueUnit (stretch_found g)) (stretch_found g) (stretch_by g) (stretch-behind g given) false rest)))
-        (λ all w k. plus k) (λ more all behind w e i. stretch-onto g given rest more all behind w l e i) (no_stretch no_shrink))
+    (or-nothing (Stretch g) (Keyword (Stretches g) (codes "plus")) (Skip g) given (length_behind (stretch_uses g given) false rest)
+    (lack (stretch_uses g given) (Skip g) given (Keyword (Stretches g) (codes "plus")) given (length_behind (stretch_uses g given) false rest) refl refl
+    (word-front-reads (Lacks (stretch_uses g given)) (Stretches g) (length_behind (stretch_uses g given) false rest) 112 (codes "lus") given rest l
+    (length-reads (stretch_uses g given) (GlueUnit (stretch_found g)) (stretch_found g) (stretch_by g) (stretch-behind g given) false rest)))
+    (λ all w k. plus k) (λ more all behind w e i. stretch-onto g given rest more all behind w l e i) (no_stretch no_shrink))
 stretch-by-fate g given (word_differs d s) =
     subst (λ (m : Meant Scanned). Reads (Stretch g) given m) (sym (s (length_behind (stretch_uses g given) false) (shrink g given)))
-      (reads-among (record { into = λ more all behind w e i. no_stretch i; onto = onto }) (shrink g given) (shrink-reads g given))
-    where
-  onto : (more all behind : List Given) (w : Worth Scanned) → given ++ more ≡ all ++ behind → Stretch g all w → Shrink g all w
-  onto more all behind w e (no_stretch i) = i
-  onto more all behind w e (plus k) = absurd (word-not-there (Stretches g) 112 (codes "lus") given all more behind w d k e)
+    (reads-among (record { into = λ more all behind w e i. no_stretch i; onto = onto }) (shrink g given) (shrink-reads g given))
+  where
+    onto : (more all behind : List Given) (w : Worth Scanned) → given ++ more ≡ all ++ behind → Stretch g all w → Shrink g all w
+    onto more all behind w e (no_stretch i) = i
+    onto more all behind w e (plus k) = absurd (word-not-there (Stretches g) 112 (codes "lus") given all more behind w d k e)
 
 stretch-reads : (g : Glue) (given : List Given) → Reads (Stretch g) given (stretch g given)
 stretch-reads g given = stretch-by-fate g given (word-fate 112 (codes "lus") given)
@@ -213,7 +213,7 @@ glue-behind = record {
   alone_reads = alone_reads;
   alone_has = λ n. stretch-has (of_width (signed n (pos 0)));
   units_read = λ n whole fraction given. table-reads (Lacks glue_uses) (InUnit glue_found n whole fraction) (in_unit glue_uses n whole fraction) (Wrong UnitMissing) (inr refl) units refl
-    (units-each glue_uses glue_found (λ order v. stretch-has (of_width v)) (λ order v all. stretch-reads (of_width v) all) n whole fraction) given;
+      (units-each glue_uses glue_found (λ order v. stretch-has (of_width v)) (λ order v all. stretch-reads (of_width v) all) n whole fraction) given;
   units_filled = λ n whole fraction w. table-not-empty (InUnit glue_found n whole fraction) units w refl;
   unit_rest = point-rest glue_found (λ order v. stretch-has (of_width v));
 } where
@@ -269,7 +269,7 @@ glue-unit-fine : (found : Order → ℤ → List Given → Worth Scanned → Typ
     → (n : Bool) (whole fraction : ℕ) (all : List Given) (w : Worth Scanned) → GlueUnit found n whole fraction all w → IsFine w
 glue-unit-fine found f n whole fraction all w (infinite l) =
     letters-all IsFine (Fils (λ order. InUnit found n whole fraction (Infinite order)) Fil)
-      (fils-all IsFine (λ order. InUnit found n whole fraction (Infinite order)) (λ order. in-unit-all IsFine (inl refl) found f n whole fraction (Infinite order)) Fil) (codes "fil") all w l
+    (fils-all IsFine (λ order. InUnit found n whole fraction (Infinite order)) (λ order. in-unit-all IsFine (inl refl) found f n whole fraction (Infinite order)) Fil) (codes "fil") all w l
 glue-unit-fine found f n whole fraction all w (finite o) =
     one-of-all IsFine (InUnit found n whole fraction) (in-unit-all IsFine (inl refl) found f n whole fraction) units all w o
 
@@ -280,36 +280,36 @@ shrink-fine : (g : Glue) (all : List Given) (w : Worth Scanned) → Shrink g all
 shrink-fine g _ _ no_shrink = tt
 shrink-fine g all w (minus k) =
     keyword-all IsFine (Shrinks g)
-      (length-all IsFine (inl refl) (inr refl) (GlueUnit (shrink_found g)) (shrink_found g) (shrink_by g) (λ order v. nothing-fine (Skip (shrunk g order v)))
-        (glue-unit-fine (shrink_found g) (λ order v. nothing-fine (Skip (shrunk g order v)))) by_fine false) (codes "minus") all w k where
-  by_fine : (n : Bool) (q : Quantity) (all : List Given) (w : Worth Scanned) → shrink_by g n q all w → IsFine w
-  by_fine n (quantity.Dimen v) all w r = nothing-fine (Skip (shrunk g Finite (signed n v))) all w r
-  by_fine n quantity.NotOne all w r = absurd r
-  by_fine n (quantity.Number v) all w r = absurd r
-  by_fine n (quantity.Skip v) all w r = absurd r
+    (length-all IsFine (inl refl) (inr refl) (GlueUnit (shrink_found g)) (shrink_found g) (shrink_by g) (λ order v. nothing-fine (Skip (shrunk g order v)))
+    (glue-unit-fine (shrink_found g) (λ order v. nothing-fine (Skip (shrunk g order v)))) by_fine false) (codes "minus") all w k where
+      by_fine : (n : Bool) (q : Quantity) (all : List Given) (w : Worth Scanned) → shrink_by g n q all w → IsFine w
+      by_fine n (quantity.Dimen v) all w r = nothing-fine (Skip (shrunk g Finite (signed n v))) all w r
+      by_fine n quantity.NotOne all w r = absurd r
+      by_fine n (quantity.Number v) all w r = absurd r
+      by_fine n (quantity.Skip v) all w r = absurd r
 
 stretch-fine : (g : Glue) (all : List Given) (w : Worth Scanned) → Stretch g all w → IsFine w
 stretch-fine g all w (no_stretch r) = shrink-fine g all w r
 stretch-fine g all w (plus k) =
     keyword-all IsFine (Stretches g)
-      (length-all IsFine (inl refl) (inr refl) (GlueUnit (stretch_found g)) (stretch_found g) (stretch_by g) (λ order v. shrink-fine (stretched g order v))
-        (glue-unit-fine (stretch_found g) (λ order v. shrink-fine (stretched g order v))) by_fine false) (codes "plus") all w k where
-  by_fine : (n : Bool) (q : Quantity) (all : List Given) (w : Worth Scanned) → stretch_by g n q all w → IsFine w
-  by_fine n (quantity.Dimen v) all w r = shrink-fine (stretched g Finite (signed n v)) all w r
-  by_fine n quantity.NotOne all w r = absurd r
-  by_fine n (quantity.Number v) all w r = absurd r
-  by_fine n (quantity.Skip v) all w r = absurd r
+    (length-all IsFine (inl refl) (inr refl) (GlueUnit (stretch_found g)) (stretch_found g) (stretch_by g) (λ order v. shrink-fine (stretched g order v))
+    (glue-unit-fine (stretch_found g) (λ order v. shrink-fine (stretched g order v))) by_fine false) (codes "plus") all w k where
+      by_fine : (n : Bool) (q : Quantity) (all : List Given) (w : Worth Scanned) → stretch_by g n q all w → IsFine w
+      by_fine n (quantity.Dimen v) all w r = shrink-fine (stretched g Finite (signed n v)) all w r
+      by_fine n quantity.NotOne all w r = absurd r
+      by_fine n (quantity.Number v) all w r = absurd r
+      by_fine n (quantity.Skip v) all w r = absurd r
 
 glue-fine : (all : List Given) (w : Worth Scanned) → IsGlue all w → IsFine w
 glue-fine all w r =
     length-all IsFine (inl refl) (inr refl) units_of_glue glue_found glue_by (λ order v. stretch-fine (of_width v))
-      (λ n whole fraction. one-of-all IsFine (InUnit glue_found n whole fraction) (in-unit-all IsFine (inl refl) glue_found (λ order v. stretch-fine (of_width v)) n whole fraction) units)
-      by_fine false all w r where
-  by_fine : (n : Bool) (q : Quantity) (all : List Given) (w : Worth Scanned) → glue_by n q all w → IsFine w
-  by_fine n (quantity.Dimen v) all w r = stretch-fine (of_width (signed n v)) all w r
-  by_fine n (quantity.Skip g) all w r = nothing-fine (Skip (signed_glue n g)) all w r
-  by_fine n quantity.NotOne all w r = absurd r
-  by_fine n (quantity.Number v) all w r = absurd r
+    (λ n whole fraction. one-of-all IsFine (InUnit glue_found n whole fraction) (in-unit-all IsFine (inl refl) glue_found (λ order v. stretch-fine (of_width v)) n whole fraction) units)
+    by_fine false all w r where
+      by_fine : (n : Bool) (q : Quantity) (all : List Given) (w : Worth Scanned) → glue_by n q all w → IsFine w
+      by_fine n (quantity.Dimen v) all w r = stretch-fine (of_width (signed n v)) all w r
+      by_fine n (quantity.Skip g) all w r = nothing-fine (Skip (signed_glue n g)) all w r
+      by_fine n quantity.NotOne all w r = absurd r
+      by_fine n (quantity.Number v) all w r = absurd r
 
 never : (kind : Kind) → (kind ≡ NumberMissing) ⊎ (kind ≡ UnitMissing) → (kind ≡ DimenTooLarge) ⊎ (kind ≡ NumberTooBig) → ⊥
 never kind (inl a) (inl b) = cc

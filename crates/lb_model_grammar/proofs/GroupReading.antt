@@ -1,23 +1,21 @@
 -- What groups and undelimited arguments are, and why there is no argument.
-use Rattle.std.proofs.Common.{◌≡◌, ◌∙◌, ◌++◌, ◌+◌, ◌<◌, ◌≤◌, Bool, true, false, not, ℕ, zero, suc, nat_lt, List, [], ◌∷◌, length, Some, None, refl, ap, sym, subst, arith, inl, inr, append_assoc, append-nil, length-append}
+use Rattle.std.proofs.Common.{◌≡◌, ◌∙◌, ◌++◌, ◌≤◌, Bool, true, false, ℕ, zero, suc, List, [], ◌∷◌, length, Some, None, refl, ap, sym, subst, inl, inr, append_assoc, append-nil}
 use Rattle.std.specs.Prelude.{◌⊎◌, ◌&&◌, Option, if◌then◌else◌}
-use Rattle.lb_base.specs.declared.fault.Kind.{Kind}
 use Rattle.lb_base.specs.declared.fault.Kind.TheVariants.{DepthLimit, Runaway, UseMismatch}
 use Rattle.lb_base.specs.declared.token.Category.TheVariants as category
 use Rattle.lb_base.specs.declared.token.Tok.{Tok}
 use Rattle.lb_base.specs.declared.token.Tok.TheVariants.{Char, Word, Active, Param}
 use Rattle.lb_model_grammar.specs.declared.class.Brace.{Brace}
-use Rattle.lb_model_grammar.specs.declared.class.Brace.TheVariants.{Opening, Closing, Paragraph, Plain}
 use Rattle.lb_model_grammar.specs.declared.given.Given.{Given}
 use Rattle.lb_model_grammar.specs.declared.given.Given.TheVariants.{Tok as AToken, Quantity as AQuantity, End}
-use Rattle.lb_model_grammar.specs.ArgumentGrammar.{ClosesAtBase, Fits, IsBalanced, IsGroup, IsUndelimited, Stops, before, is_barred, levels}
+use Rattle.lb_model_grammar.specs.ArgumentGrammar.{ClosesAtBase, Fits, IsGroup, IsUndelimited, Stops, before, is_barred, levels}
 use Rattle.lb_model_grammar.specs.ArgumentGrammar.Fits.{nothing, token}
 use Rattle.lb_model_grammar.specs.ArgumentGrammar.IsUndelimited.{blank, group as a_group, token as a_token}
 use Rattle.lb_model_grammar.specs.ArgumentGrammar.Stops.{end as stop_end, later as stop_later, paragraph as stop_paragraph, quantity as stop_quantity}
 use Rattle.lb_model_grammar.specs.Arguments.{Begun, at_base, begins, brace_of, but_last, closes, closes_at_end, delimited, delimited_as, delimited_by, group, group_as, is_par, level_then, longer, one_less, opens, undelimited, undelimited_as, without_braces}
 use Rattle.lb_model_grammar.specs.Arguments.Begun.{Cut, Does, DoesNot, May}
 use Rattle.lb_model_grammar.specs.Scans.{Meant, is_space}
-use Rattle.lb_model_grammar.specs.Scans.Meant.{Open, Ended, Wrong}
+use Rattle.lb_model_grammar.specs.Scans.Meant.{Ended, Wrong}
 use Rattle.lb_model_grammar.proofs.ArgumentReading.{Stands, cut-at-base, begins-cut, longer-ended, longer-wrong, stands, Cuts}
 use Rattle.lb_model_grammar.proofs.ArgumentReading.Stands.{closing, opening, paragraph, plain}
 use Rattle.lb_model_grammar.proofs.ArgumentReading.Cuts.{end as cut_end, later as cut_later, quantity as cut_quantity}
@@ -72,7 +70,7 @@ closes-at level (t ∷ inner) c e l = by (level_then t level) l (λ k q. closes-
 pub braces-go : (toks inner : List Tok) → IsGroup toks inner → without_braces toks ≡ inner
 braces-go toks inner g =
     let test : (opens g.opening && closes_at_end (Some 0) (inner ++ g.closing ∷ [])) ≡ true =
-        (λ i. g.opened i && closes-at 0 inner g.closing g.closed g.balanced i) in
+    (λ i. g.opened i && closes-at 0 inner g.closing g.closed g.balanced i) in
     ap without_braces g.parts
     ∙ ap (λ (b : Bool). if b then but_last (inner ++ g.closing ∷ []) else g.opening ∷ inner ++ g.closing ∷ []) test
     ∙ last-off inner g.closing
@@ -146,7 +144,7 @@ group-taken : (long : Bool) (level : ℕ) (body : List Tok) (t : Tok) (given : L
     → Rest long level body (AToken t ∷ given) arg rest
 group-taken long level body t given arg rest ih (opening k o l f) e =
     let q : longer body t (λ b. group long (suc level) b given) ≡ Ended arg rest =
-        sym (ap (λ (x : Brace). group_as x level body t (λ l b. group long l b given) given) k) ∙ e in
+    sym (ap (λ (x : Brace). group_as x level body t (λ l b. group long l b given) given) k) ∙ e in
     rest-then long level (suc level) body t given arg rest f (l level) (ih (suc level) (body ++ t ∷ []) (longer-ended body t (λ b. group long (suc level) b given) arg rest q))
 group-taken long zero body t given arg rest ih (closing k c l f) e =
     let q : Ended body given ≡ Ended arg rest = sym (ap (λ (x : Brace). group_as x 0 body t (λ l b. group long l b given) given) k) ∙ e in
@@ -155,13 +153,13 @@ group-taken long zero body t given arg rest ih (closing k c l f) e =
     record { toks = []; last = t; closed = c; parts = ap (λ x. AToken t ∷ x) r; same = sym a ∙ sym (append-nil body); balanced = refl; fits = nothing }
 group-taken long (suc level) body t given arg rest ih (closing k c l f) e =
     let q : longer body t (λ b. group long level b given) ≡ Ended arg rest =
-        sym (ap (λ (x : Brace). group_as x (suc level) body t (λ l b. group long l b given) given) k) ∙ e in
+    sym (ap (λ (x : Brace). group_as x (suc level) body t (λ l b. group long l b given) given) k) ∙ e in
     rest-then long (suc level) level body t given arg rest f (l (suc level)) (ih level (body ++ t ∷ []) (longer-ended body t (λ b. group long level b given) arg rest q))
 group-taken long level body t given arg rest ih (paragraph k f) e =
     let q : Wrong Runaway ≡ Ended arg rest = sym (ap (λ (x : Brace). group_as x level body t (λ l b. group long l b given) given) k) ∙ e in cc
 group-taken long level body t given arg rest ih (plain k o c l f) e =
     let q : longer body t (λ b. group long level b given) ≡ Ended arg rest =
-        sym (ap (λ (x : Brace). group_as x level body t (λ l b. group long l b given) given) k) ∙ e in
+    sym (ap (λ (x : Brace). group_as x level body t (λ l b. group long l b given) given) k) ∙ e in
     rest-then long level level body t given arg rest f (l level) (ih level (body ++ t ∷ []) (longer-ended body t (λ b. group long level b given) arg rest q))
 
 group-rest : (long : Bool) (level : ℕ) (body : List Tok) (given : List Given) (arg : List Tok) (rest : List Given) → group long level body given ≡ Ended arg rest
@@ -186,12 +184,12 @@ undelimited-taken long t given arg rest ih (paragraph k f) e =
     let q : Wrong Runaway ≡ Ended arg rest = sym (ap (λ (x : Brace). undelimited_as x long t (undelimited long given) given) k) ∙ e in cc
 undelimited-taken long t given arg rest ih (plain k o c l f) e =
     by (is_space t) refl (sym (ap (λ (x : Brace). undelimited_as x long t (undelimited long given) given) k) ∙ e) where
-  by : (b : Bool) → is_space t ≡ b → (if b then undelimited long given else Ended (t ∷ []) given) ≡ Ended arg rest → IsUndelimited long (AToken t ∷ given) arg rest
-  by true s q = blank s (ih q)
-  by false s q =
-      let a : t ∷ [] ≡ arg = cc in
-      let r : given ≡ rest = cc in
-      subst (λ (x : List Given). IsUndelimited long (AToken t ∷ given) arg x) r (subst (λ (x : List Tok). IsUndelimited long (AToken t ∷ given) x given) a (a_token s o c f))
+      by : (b : Bool) → is_space t ≡ b → (if b then undelimited long given else Ended (t ∷ []) given) ≡ Ended arg rest → IsUndelimited long (AToken t ∷ given) arg rest
+      by true s q = blank s (ih q)
+      by false s q =
+          let a : t ∷ [] ≡ arg = cc in
+          let r : given ≡ rest = cc in
+          subst (λ (x : List Given). IsUndelimited long (AToken t ∷ given) arg x) r (subst (λ (x : List Tok). IsUndelimited long (AToken t ∷ given) x given) a (a_token s o c f))
 
 pub undelimited-read : (long : Bool) (given rest : List Given) (arg : List Tok) → undelimited long given ≡ Ended arg rest → IsUndelimited long given arg rest
 undelimited-read long [] rest arg e = cc
@@ -230,16 +228,16 @@ closes-taken : (long : Bool) (delimiter : List Tok) (level : ℕ) (body : List T
     → Stands long t → delimited_as (brace_of long t) level body t (λ l b. delimited long delimiter l b given) ≡ Wrong UseMismatch → Closes level (AToken t ∷ given)
 closes-taken long delimiter level body t given ih (opening k o l f) e =
     closes-then level (suc level) t given (l level) (ih (suc level) (body ++ t ∷ []) (went-on body t (λ b. delimited long delimiter (suc level) b given)
-      (sym (ap (λ (x : Brace). delimited_as x level body t (λ l b. delimited long delimiter l b given)) k) ∙ e)))
+    (sym (ap (λ (x : Brace). delimited_as x level body t (λ l b. delimited long delimiter l b given)) k) ∙ e)))
 closes-taken long delimiter zero body t given ih (closing k c l f) e = record { toks = []; last = t; behind = given; closed = c; balanced = refl; parts = refl }
 closes-taken long delimiter (suc level) body t given ih (closing k c l f) e =
     closes-then (suc level) level t given (l (suc level)) (ih level (body ++ t ∷ []) (went-on body t (λ b. delimited long delimiter level b given)
-      (sym (ap (λ (x : Brace). delimited_as x (suc level) body t (λ l b. delimited long delimiter l b given)) k) ∙ e)))
+    (sym (ap (λ (x : Brace). delimited_as x (suc level) body t (λ l b. delimited long delimiter l b given)) k) ∙ e)))
 closes-taken long delimiter level body t given ih (paragraph k f) e =
     let q : Wrong Runaway ≡ Wrong UseMismatch = sym (ap (λ (x : Brace). delimited_as x level body t (λ l b. delimited long delimiter l b given)) k) ∙ e in cc
 closes-taken long delimiter level body t given ih (plain k o c l f) e =
     closes-then level level t given (l level) (ih level (body ++ t ∷ []) (went-on body t (λ b. delimited long delimiter level b given)
-      (sym (ap (λ (x : Brace). delimited_as x level body t (λ l b. delimited long delimiter l b given)) k) ∙ e)))
+    (sym (ap (λ (x : Brace). delimited_as x level body t (λ l b. delimited long delimiter l b given)) k) ∙ e)))
 
 closes-by : (long : Bool) (delimiter : List Tok) (level : ℕ) (body : List Tok) (t : Tok) (given : List Given)
     → ((l : ℕ) (b : List Tok) → delimited long delimiter l b given ≡ Wrong UseMismatch → Closes l given) → (begun : Begun)
@@ -279,16 +277,16 @@ stops-taken : (long : Bool) (delimiter : List Tok) (level : ℕ) (body : List To
     → Stands long t → delimited_as (brace_of long t) level body t (λ l b. delimited long delimiter l b given) ≡ Wrong Runaway → Stops long (AToken t ∷ given)
 stops-taken long delimiter level body t given ih (opening k o l f) e =
     stop_later (ih (suc level) (body ++ t ∷ []) (ran-on body t (λ b. delimited long delimiter (suc level) b given)
-      (sym (ap (λ (x : Brace). delimited_as x level body t (λ l b. delimited long delimiter l b given)) k) ∙ e)))
+    (sym (ap (λ (x : Brace). delimited_as x level body t (λ l b. delimited long delimiter l b given)) k) ∙ e)))
 stops-taken long delimiter zero body t given ih (closing k c l f) e =
     let q : Wrong UseMismatch ≡ Wrong Runaway = sym (ap (λ (x : Brace). delimited_as x 0 body t (λ l b. delimited long delimiter l b given)) k) ∙ e in cc
 stops-taken long delimiter (suc level) body t given ih (closing k c l f) e =
     stop_later (ih level (body ++ t ∷ []) (ran-on body t (λ b. delimited long delimiter level b given)
-      (sym (ap (λ (x : Brace). delimited_as x (suc level) body t (λ l b. delimited long delimiter l b given)) k) ∙ e)))
+    (sym (ap (λ (x : Brace). delimited_as x (suc level) body t (λ l b. delimited long delimiter l b given)) k) ∙ e)))
 stops-taken long delimiter level body t given ih (paragraph k f) e = stop_paragraph f
 stops-taken long delimiter level body t given ih (plain k o c l f) e =
     stop_later (ih level (body ++ t ∷ []) (ran-on body t (λ b. delimited long delimiter level b given)
-      (sym (ap (λ (x : Brace). delimited_as x level body t (λ l b. delimited long delimiter l b given)) k) ∙ e)))
+    (sym (ap (λ (x : Brace). delimited_as x level body t (λ l b. delimited long delimiter l b given)) k) ∙ e)))
 
 stops-by : (long : Bool) (delimiter : List Tok) (level : ℕ) (body : List Tok) (t : Tok) (given : List Given)
     → ((l : ℕ) (b : List Tok) → delimited long delimiter l b given ≡ Wrong Runaway → Stops long given) → (begun : Begun) → at_base level (begins delimiter (AToken t ∷ given)) ≡ begun

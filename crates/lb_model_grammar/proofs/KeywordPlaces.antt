@@ -1,5 +1,5 @@
 -- Where a keyword stands, behind spaces.
-use Rattle.std.proofs.Common.{◌≡◌, ◌∙◌, ◌++◌, Bool, true, false, ℕ, List, [], ◌∷◌, refl, ap, sym, subst}
+use Rattle.std.proofs.Common.{◌≡◌, ◌∙◌, ◌++◌, Bool, true, false, ℕ, List, [], ◌∷◌, refl, ap, sym}
 use Rattle.std.specs.Prelude.{if◌then◌else◌}
 use Rattle.lb_base.specs.declared.token.Category.TheVariants as category
 use Rattle.lb_base.specs.declared.token.Tok.{Tok}
@@ -9,17 +9,17 @@ use Rattle.lb_model_grammar.specs.declared.given.Given.TheVariants.{Tok as AToke
 use Rattle.lb_model_grammar.specs.declared.given.Scanned.{Scanned}
 use Rattle.lb_model_grammar.specs.declared.given.Want.TheVariants as want
 use Rattle.lb_model_grammar.specs.Scans.{Meant, is_space, keyword, letters}
-use Rattle.lb_model_grammar.specs.Scans.Meant.{Open, Ended, Wrong}
+use Rattle.lb_model_grammar.specs.Scans.Meant.{Open}
 use Rattle.lb_model_grammar.specs.WordGrammar.{Keyword, Letters, begins_blank}
 use Rattle.lb_model_grammar.specs.WordGrammar.Keyword.{blank, letters as the_letters}
-use Rattle.lb_model_grammar.specs.WordGrammar.Letters.{ended, letter}
-use Rattle.lb_model_grammar.specs.Written.{GoesOn, Reads, ReadsOr, Worth}
+use Rattle.lb_model_grammar.specs.WordGrammar.Letters.{letter}
+use Rattle.lb_model_grammar.specs.Written.{ReadsOr, Worth}
 use Rattle.lb_model_grammar.proofs.ReadingSteps.{reads-or-as, reads-or-behind}
 use Rattle.lb_model_grammar.proofs.UnitReading.{Differs, Fate, Front, Left, apart, apart-differs, fate, front-differs, front-reads, goes-on, letters-differs}
-use Rattle.lb_model_grammar.proofs.UnitReading.Differs.{also as differs_also, end, quantity, token}
+use Rattle.lb_model_grammar.proofs.UnitReading.Differs.{end, quantity}
 use Rattle.lb_model_grammar.proofs.UnitReading.Fate.{differs, short, whole}
-use Rattle.lb_model_grammar.proofs.UnitReading.Front.{also as front_also, done}
-use Rattle.lb_model_grammar.proofs.UnitReading.Left.{all_left, also as left_also}
+use Rattle.lb_model_grammar.proofs.UnitReading.Front.{also as front_also}
+use Rattle.lb_model_grammar.proofs.UnitReading.Left.{all_left}
 use Rattle.lb_model_grammar.proofs.WordReading.{behind-blank, no-blank, no-keyword, spelled}
 
 -- spaces, and then the letters of a word, and this behind them
@@ -99,17 +99,17 @@ word-not-other K c word other _ rest _ more behind w a (front_blank {t = t} {giv
     word-not-other K c word other given rest all more behind w a l r tail
 word-not-other K c word other _ rest all more behind w a (front_blank {t = t} {given = given} e l) (the_letters b r) q =
     no-letters-there all b r q where
-  no-letters-there : (all : List Given) → begins_blank all ≡ false → Letters K other all w → AToken t ∷ given ++ more ≡ all ++ behind → ⊥
-  no-letters-there [] b r q = empty other r a where
-    empty : (other : List ℕ) → Letters K other [] w → apart (c ∷ word) other ≡ true → ⊥
-    empty [] r a = cc
-    empty (d ∷ other) r a = elim r [ ]
-  no-letters-there (AToken s ∷ all) b r q =
-      let head : t ≡ s = cc in
-      let x : is_space s ≡ true = sym (ap is_space head) ∙ e in
-      cc
-  no-letters-there (AQuantity x ∷ all) b r q = cc
-  no-letters-there (End ∷ all) b r q = cc
+      no-letters-there : (all : List Given) → begins_blank all ≡ false → Letters K other all w → AToken t ∷ given ++ more ≡ all ++ behind → ⊥
+      no-letters-there [] b r q = empty other r a where
+        empty : (other : List ℕ) → Letters K other [] w → apart (c ∷ word) other ≡ true → ⊥
+        empty [] r a = cc
+        empty (d ∷ other) r a = elim r [ ]
+      no-letters-there (AToken s ∷ all) b r q =
+          let head : t ≡ s = cc in
+          let x : is_space s ≡ true = sym (ap is_space head) ∙ e in
+          cc
+      no-letters-there (AQuantity x ∷ all) b r q = cc
+      no-letters-there (End ∷ all) b r q = cc
 word-not-other K c word other _ rest _ more behind w a (front_here b (front_also {t = t} {given = given} h l)) (blank {t = s} {given = all} e r) q =
     let head : t ≡ s = cc in
     let x : is_space t ≡ true = ap is_space head ∙ e in

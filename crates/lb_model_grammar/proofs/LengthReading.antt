@@ -1,50 +1,31 @@
 -- What is read of a dimension, by the grammar.
-use Rattle.std.proofs.Common.{◌≡◌, ◌∙◌, ◌++◌, ◌+◌, ◌*◌, ◌/◌, ◌<◌, ◌≤◌, Bool, true, false, not, ℕ, ℤ, pos, nat_lt, List, [], ◌∷◌, length, Some, None, refl, ap, sym, subst, arith, inl, inr, take}
-use Rattle.std.specs.Prelude.{◌⊎◌, Option, if◌then◌else◌, min, nat_abs}
-use Rattle.std.proofs.lemmas.Bool.{le-ltb, ltb-false}
-use Rattle.lb_base.specs.Decimals.{fraction_from_digits}
-use Rattle.lb_base.specs.declared.fault.Kind.{Kind}
-use Rattle.lb_base.specs.declared.fault.Kind.TheVariants.{DimenTooLarge, NumberMissing, NumberTooBig, UnitMissing}
+use Rattle.std.proofs.Common.{◌≡◌, ◌≤◌, Bool, true, false, ℕ, ℤ, pos, nat_lt, List, [], ◌∷◌, length, refl, arith, inr}
+use Rattle.std.specs.Prelude.{◌⊎◌, if◌then◌else◌, nat_abs}
+use Rattle.lb_base.specs.declared.fault.Kind.TheVariants.{DimenTooLarge, NumberMissing, UnitMissing}
 use Rattle.lb_base.specs.declared.glue.Order.{Order}
 use Rattle.lb_base.specs.declared.glue.Order.TheVariants.{Finite}
 use Rattle.lb_base.specs.declared.token.Category.TheVariants as category
 use Rattle.lb_base.specs.declared.token.Tok.{Tok}
-use Rattle.lb_base.specs.declared.token.Tok.TheVariants.{Char, Word, Active, Param}
-use Rattle.lb_model_grammar.specs.declared.class.Class.{Class}
-use Rattle.lb_model_grammar.specs.declared.class.Class.TheVariants.{Space, Plus, Minus, Digit, Octal, Hexadecimal, Quote, Point, Command, Other}
+use Rattle.lb_base.specs.declared.token.Tok.TheVariants.{Char}
 use Rattle.lb_model_grammar.specs.declared.given.Given.{Given}
 use Rattle.lb_model_grammar.specs.declared.given.Given.TheVariants.{Tok as AToken, Quantity as AQuantity, End}
 use Rattle.lb_model_grammar.specs.declared.given.Quantity.{Quantity}
 use Rattle.lb_model_grammar.specs.declared.given.Quantity.TheVariants as quantity
 use Rattle.lb_model_grammar.specs.declared.given.Scanned.{Scanned}
-use Rattle.lb_model_grammar.specs.declared.given.Scanned.TheVariants as scanned
 use Rattle.lb_model_grammar.specs.declared.given.Want.{Want}
-use Rattle.lb_model_grammar.specs.declared.given.Want.TheVariants as want
-use Rattle.lb_model_grammar.specs.Dimensions.{Unit_of, Uses, behind_whole, font_unit, fraction, in_unit, internal, internal_unit, is_negative, length_as, length_behind, point_or_unit, sized, times, unit, unit_as, xor}
-use Rattle.lb_model_grammar.specs.Dimensions.Unit_of.{Infinite, OfFont, Physical, Scaled}
-use Rattle.lb_model_grammar.specs.LengthGrammar.{Alone, BehindWhole, FontSize, Fraction, InUnit, InternalUnit, IsLength, Multiple, OneOf, PointOrUnit, Sized, Spaced, UnitOf, begins_digit, begins_unit}
-use Rattle.lb_model_grammar.specs.LengthGrammar.Alone.{by_itself}
-use Rattle.lb_model_grammar.specs.LengthGrammar.BehindWhole.{large as whole_large, small as whole_small}
+use Rattle.lb_model_grammar.specs.Dimensions.{Uses, font_unit, fraction, in_unit, internal_unit, is_negative, sized, times, xor}
+use Rattle.lb_model_grammar.specs.LengthGrammar.{FontSize, InternalUnit, Multiple, Sized, Spaced}
 use Rattle.lb_model_grammar.specs.LengthGrammar.FontSize.{size}
-use Rattle.lb_model_grammar.specs.LengthGrammar.Fraction.{digit as fraction_digit, unit as fraction_unit}
 use Rattle.lb_model_grammar.specs.LengthGrammar.InternalUnit.{dimen}
-use Rattle.lb_model_grammar.specs.LengthGrammar.IsLength.{blank, decimal, fraction as point_first, internal as an_internal, minus, plus}
-use Rattle.lb_model_grammar.specs.LengthGrammar.PointOrUnit.{point as a_point, unit as no_point}
 use Rattle.lb_model_grammar.specs.LengthGrammar.Sized.{large, small}
 use Rattle.lb_model_grammar.specs.LengthGrammar.Spaced.{bare, space}
-use Rattle.lb_model_grammar.specs.LengthGrammar.UnitOf.{blank as unit_blank, internal as unit_internal, letters as unit_letters}
-use Rattle.lb_model_grammar.specs.NumberGrammar.{Digits}
-use Rattle.lb_model_grammar.specs.NumberGrammar.Digits.{digit, last}
-use Rattle.lb_model_grammar.specs.Scans.{Meant, class_of, digit_of, digits, grown, if_digit, is_other, is_space, one_of, signed, space_before}
-use Rattle.lb_model_grammar.specs.Scans.Meant.{Open, Ended, Wrong}
-use Rattle.lb_model_grammar.specs.WordGrammar.{begins_blank}
-use Rattle.lb_model_grammar.specs.Written.{Answers, GoesOn, IsTooLarge, NoneBegins, Reads, ReadsOr, Worth}
-use Rattle.lb_model_grammar.specs.Written.Answers.{em, ex, expanded, quantity as a_quantity}
+use Rattle.lb_model_grammar.specs.Scans.{Meant, is_space, one_of, signed, space_before}
+use Rattle.lb_model_grammar.specs.Scans.Meant.{Wrong}
+use Rattle.lb_model_grammar.specs.Written.{Answers, Reads, ReadsOr, Worth}
+use Rattle.lb_model_grammar.specs.Written.Answers.{expanded, quantity as a_quantity}
 use Rattle.lb_model_grammar.specs.Written.ReadsOr.{none, reads}
-use Rattle.lb_model_grammar.specs.Written.Worth.{TooLarge, Value}
-use Rattle.lb_model_grammar.proofs.NumberReading.{Alike, grown-alike}
-use Rattle.lb_model_grammar.proofs.NumberReading.Alike.{large as alike_large, same as alike_same}
-use Rattle.lb_model_grammar.proofs.ReadingSteps.{Equal, Has, Same, Step, among-same, nothing-begins, reads-as, reads-behind, reads-equal, reads-or-among, reads-or-as, reads-or-behind, reads-or-behind-full}
+use Rattle.lb_model_grammar.specs.Written.Worth.{TooLarge}
+use Rattle.lb_model_grammar.proofs.ReadingSteps.{Equal, Has, Same, Step, nothing-begins, reads-as, reads-behind, reads-equal}
 
 -- what comes where a dimension does not stand
 abbrev pub Lacks : Uses → Meant Scanned → Type 0

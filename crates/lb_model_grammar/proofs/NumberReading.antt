@@ -1,5 +1,5 @@
 -- What is read of a number, by the grammar.
-use Rattle.std.proofs.Common.{◌≡◌, ◌∙◌, ◌++◌, ◌+◌, ◌*◌, ◌<◌, ◌≤◌, Bool, true, false, not, ℕ, ℤ, pos, nat_lt, List, [], ◌∷◌, length, Some, None, refl, ap, sym, subst, arith, inl, inr}
+use Rattle.std.proofs.Common.{◌≡◌, ◌∙◌, ◌+◌, ◌*◌, ◌≤◌, Bool, true, false, not, ℕ, ℤ, pos, nat_lt, List, [], ◌∷◌, Some, None, refl, ap, sym, subst, arith, inl, inr}
 use Rattle.std.specs.Prelude.{◌⊎◌, Option, if◌then◌else◌, min}
 use Rattle.std.proofs.Math.Nat.{min-eq_left, min-eq_right}
 use Rattle.std.proofs.lemmas.Bool.{le-ltb}
@@ -41,7 +41,7 @@ pub data Alike : ℕ → ℕ → Type 0 where
 
 ended-by : (b : Bool) (n : Bool) (v : ℕ) (rest : List Given)
     → (if b then Ended (scanned.Number (signed n (pos v))) rest else Wrong NumberTooBig)
-      ≡ outcome (if b then Value (scanned.Number (signed n (pos v))) else TooLarge NumberTooBig) rest
+    ≡ outcome (if b then Value (scanned.Number (signed n (pos v))) else TooLarge NumberTooBig) rest
 ended-by true n v rest = refl
 ended-by false n v rest = refl
 
@@ -71,9 +71,6 @@ grown-alike base v w d grows (same e) = by (nat_lt (base * w + d) 2147483648) re
 
 -- ---- One space
 
-
-
-
 closing-only : (n : Bool) (v : ℕ) (t : Tok) (all : List Given) (w : Worth Scanned) → Closing n v (AToken t ∷ all) w → all ≡ []
 closing-only n v t all w (space e) = refl
 
@@ -90,14 +87,14 @@ closing-reads n v w a [] =
     record { next = AToken (Char category.Space 32); answers = expanded; more = []; worth = worth_of n v; is = space refl }
 closing-reads n v w a (AToken t ∷ given) =
     subst (λ (f : List Given → Meant Scanned). Reads (Closing n v) (AToken t ∷ given) (if is_space t then f given else f (AToken t ∷ given)))
-      (λ i rest. sym (ended-alike n v w rest a) i)
-      (closing-at n v t given (is_space t) refl)
+    (λ i rest. sym (ended-alike n v w rest a) i)
+    (closing-at n v t given (is_space t) refl)
 closing-reads n v w a (AQuantity q ∷ given) =
     subst (λ (m : Meant Scanned). Reads (Closing n v) (AQuantity q ∷ given) m) (sym (ended-alike n v w (AQuantity q ∷ given) a))
-      (ends-before (Closing n v) (AQuantity q) given (worth_of n v) bare (λ all x c. elim c [ ]))
+    (ends-before (Closing n v) (AQuantity q) given (worth_of n v) bare (λ all x c. elim c [ ]))
 closing-reads n v w a (End ∷ given) =
     subst (λ (m : Meant Scanned). Reads (Closing n v) (End ∷ given) m) (sym (ended-alike n v w (End ∷ given) a))
-      (ends-before (Closing n v) End given (worth_of n v) bare (λ all x c. elim c [ ]))
+    (ends-before (Closing n v) End given (worth_of n v) bare (λ all x c. elim c [ ]))
 
 -- ---- Digits
 
@@ -131,7 +128,7 @@ digits-at : {X : Type 0} (base : ℕ) (K : ℕ → List Given → Worth X → Ty
     → Reads (Digits base K v) (AToken t ∷ given) (if_digit o (λ d. digits base (grown base w d) done given) (done w (AToken t ∷ given)))
 digits-at base K done grows no_digit v w a t given ih here (Some d) e =
     reads-behind (behind-digit base K no_digit v d t e) given (digits base (grown base w d) done given)
-      (ih (base * v + d) (grown base w d) (grown-alike base v w d grows a))
+    (ih (base * v + d) (grown base w d) (grown-alike base v w d grows a))
 digits-at base K done grows no_digit v w a t given ih here None e =
     reads-as (record { empty = λ x k. last k; into = λ all x k. last k; onto = no-digit-behind base K v t e }) given (done w (AToken t ∷ given)) here
 
@@ -144,10 +141,10 @@ pub digits-reads : {X : Type 0} (base : ℕ) (K : ℕ → List Given → Worth X
 digits-reads base K done grows no_digit goes_on behind v w a [] = goes_on v
 digits-reads base K done grows no_digit goes_on behind v w a (AToken t ∷ given) =
     digits-at base K done grows no_digit v w a t given (λ x y b. digits-reads base K done grows no_digit goes_on behind x y b given)
-      (behind v w a (AToken t) given) (digit_of base t) refl
+    (behind v w a (AToken t) given) (digit_of base t) refl
 digits-reads base K done grows no_digit goes_on behind v w a (AQuantity q ∷ given) =
     reads-as (record { empty = λ x k. last k; into = λ all x k. last k; onto = λ all x r. elim r [ last k ↦ k ] }) given (done w (AQuantity q ∷ given))
-      (behind v w a (AQuantity q) given)
+    (behind v w a (AQuantity q) given)
 digits-reads base K done grows no_digit goes_on behind v w a (End ∷ given) =
     reads-as (record { empty = λ x k. last k; into = λ all x k. last k; onto = λ all x r. elim r [ last k ↦ k ] }) given (done w (End ∷ given)) (behind v w a End given)
 
@@ -159,8 +156,8 @@ pub constant-reads : (base : ℕ) → ((x : ℕ) → x ≤ base * x) → (n : Bo
     → Reads (Digits base (Closing n) d) given (digits base d (closed n) given)
 constant-reads base grows n d given =
     digits-reads base (Closing n) (closed n) grows (closing-no-digit base n)
-      (λ v. record { next = AToken (Char category.Space 32); answers = expanded; more = []; worth = worth_of n v; is = last (space refl) })
-      (λ v w a g all. closing-reads n v w a (g ∷ all)) d d (same refl) given
+    (λ v. record { next = AToken (Char category.Space 32); answers = expanded; more = []; worth = worth_of n v; is = last (space refl) })
+    (λ v w a g all. closing-reads n v w a (g ∷ all)) d d (same refl) given
 
 -- ---- Digits behind a mark
 
@@ -300,7 +297,7 @@ number-reads n [] =
     reads (record { next = AToken (Char category.Other 48); answers = expanded; more = []; worth = worth_of n 0; is = decimal {d = 0} refl (last bare) })
 number-reads n (AToken t ∷ given) =
     reads-or-behind (behind-class (class_of t) n t refl) (number-not-empty n) given (number_as (class_of t) n (λ m. number m given) given)
-      (class-reads (class_of t) n given (λ m. number-reads m given))
+    (class-reads (class_of t) n given (λ m. number-reads m given))
 number-reads n (AQuantity q ∷ given) = none refl (nothing-begins (IsNumber n) (AQuantity q) given (number-not-empty n) (λ all w r. elim r [ ]))
 number-reads n (End ∷ given) = none refl (nothing-begins (IsNumber n) End given (number-not-empty n) (λ all w r. elim r [ ]))
 

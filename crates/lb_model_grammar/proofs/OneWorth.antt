@@ -1,25 +1,16 @@
 -- A list is one number, dimension or glue at most.
-use Rattle.std.proofs.Common.{codes, ◌≡◌, ◌∙◌, ◌++◌, ◌+◌, ◌*◌, ◌/◌, ◌<◌, ◌≤◌, Bool, true, false, not, ℕ, ℤ, pos, nat_lt, List, [], ◌∷◌, length, Some, None, refl, ap, sym, subst, arith, inl, inr, take}
-use Rattle.std.specs.Prelude.{◌&&◌, ◌⊎◌, Option, if◌then◌else◌, min, nat_abs}
-use Rattle.std.proofs.lemmas.Bool.{le-ltb, ltb-false}
+use Rattle.std.proofs.Common.{codes, ◌≡◌, ◌∙◌, ◌++◌, ◌+◌, ◌*◌, ◌/◌, Bool, true, false, not, ℕ, ℤ, pos, List, [], ◌∷◌, refl, ap, sym, take}
+use Rattle.std.specs.Prelude.{◌&&◌, Option, nat_abs}
 use Rattle.lb_base.specs.Decimals.{fraction_from_digits}
-use Rattle.lb_base.specs.declared.fault.Kind.{Kind}
-use Rattle.lb_base.specs.declared.fault.Kind.TheVariants.{DimenTooLarge, NumberMissing, NumberTooBig, UnitMissing}
 use Rattle.lb_base.specs.declared.glue.Order.{Order}
 use Rattle.lb_base.specs.declared.glue.Order.TheVariants.{Finite, Fil, Fill, Filll}
-use Rattle.lb_base.specs.declared.token.Category.TheVariants as category
-use Rattle.lb_base.specs.declared.token.Tok.{Tok}
-use Rattle.lb_base.specs.declared.token.Tok.TheVariants.{Char, Word, Active, Param}
-use Rattle.lb_model_grammar.specs.declared.class.Class.{Class}
-use Rattle.lb_model_grammar.specs.declared.class.Class.TheVariants.{Space, Plus, Minus, Digit, Octal, Hexadecimal, Quote, Point, Command, Other}
+use Rattle.lb_model_grammar.specs.declared.class.Class.TheVariants.{Space, Plus, Minus, Digit, Point, Command}
 use Rattle.lb_model_grammar.specs.declared.given.Given.{Given}
-use Rattle.lb_model_grammar.specs.declared.given.Given.TheVariants.{Tok as AToken, Quantity as AQuantity, End}
+use Rattle.lb_model_grammar.specs.declared.given.Given.TheVariants.{Tok as AToken, Quantity as AQuantity}
 use Rattle.lb_model_grammar.specs.declared.given.Quantity.{Quantity}
 use Rattle.lb_model_grammar.specs.declared.given.Quantity.TheVariants as quantity
 use Rattle.lb_model_grammar.specs.declared.given.Scanned.{Scanned}
 use Rattle.lb_model_grammar.specs.declared.given.Scanned.TheVariants as scanned
-use Rattle.lb_model_grammar.specs.declared.given.Want.{Want}
-use Rattle.lb_model_grammar.specs.declared.given.Want.TheVariants as want
 use Rattle.lb_base.specs.declared.glue.Glue.{Glue}
 use Rattle.lb_model_grammar.specs.GlueGrammar.{Fils, GlueUnit, IsGlue, Shrink, Stretch, glue_by, glue_found, shrink_by, shrink_found, shrunk, stretch_by, stretch_found, stretched}
 use Rattle.lb_model_grammar.specs.GlueGrammar.Fils.{fil, fill, filll, second, third}
@@ -30,9 +21,9 @@ use Rattle.lb_model_grammar.specs.LengthGrammar.OneOf.{here, there}
 use Rattle.lb_model_grammar.specs.WordGrammar.Keyword.{blank as key_blank, letters as key_letters}
 use Rattle.lb_model_grammar.specs.WordGrammar.Letters.{ended, letter}
 use Rattle.lb_model_grammar.specs.WordGrammar.Nothing.{more as nothing_more}
-use Rattle.lb_model_grammar.specs.Dimensions.{of_width, signed_glue, units, Unit_of, Uses, behind_whole, font_unit, fraction, in_unit, internal, internal_unit, is_negative, length_as, length_behind, point_or_unit, sized, times, unit, unit_as, xor}
+use Rattle.lb_model_grammar.specs.Dimensions.{of_width, signed_glue, units, Unit_of, fraction, is_negative, times, xor}
 use Rattle.lb_model_grammar.specs.Dimensions.Unit_of.{Infinite, OfFont, Physical, Scaled}
-use Rattle.lb_model_grammar.specs.LengthGrammar.{IsDimension, dimen_alone, found_alone, Alone, BehindWhole, FontSize, Fraction, InUnit, InternalUnit, IsLength, Multiple, OneOf, PointOrUnit, Sized, Spaced, UnitOf, begins_digit, begins_unit}
+use Rattle.lb_model_grammar.specs.LengthGrammar.{IsDimension, dimen_alone, found_alone, BehindWhole, FontSize, Fraction, InUnit, IsLength, Multiple, OneOf, PointOrUnit, Sized, Spaced, UnitOf, begins_unit}
 use Rattle.lb_model_grammar.specs.LengthGrammar.Alone.{by_itself}
 use Rattle.lb_model_grammar.specs.LengthGrammar.BehindWhole.{large as whole_large, small as whole_small}
 use Rattle.lb_model_grammar.specs.LengthGrammar.FontSize.{size}
@@ -45,23 +36,15 @@ use Rattle.lb_model_grammar.specs.LengthGrammar.Spaced.{bare, space}
 use Rattle.lb_model_grammar.specs.LengthGrammar.UnitOf.{blank as unit_blank, internal as unit_internal, letters as unit_letters}
 use Rattle.lb_model_grammar.specs.NumberGrammar.{Digits}
 use Rattle.lb_model_grammar.specs.NumberGrammar.Digits.{digit, last}
-use Rattle.lb_model_grammar.specs.Scans.{Meant, class_of, digit_of, digits, grown, if_digit, is_other, is_space, one_of, signed, space_before}
-use Rattle.lb_model_grammar.specs.Scans.Meant.{Open, Ended, Wrong}
-use Rattle.lb_model_grammar.specs.WordGrammar.{Keyword, Letters, Nothing, begins_blank}
-use Rattle.lb_model_grammar.specs.Written.{Answers, GoesOn, IsTooLarge, NoneBegins, Reads, ReadsOr, Worth}
-use Rattle.lb_model_grammar.specs.Written.Answers.{em, ex, expanded, quantity as a_quantity}
-use Rattle.lb_model_grammar.specs.Written.ReadsOr.{none, reads}
-use Rattle.lb_model_grammar.specs.Written.Worth.{TooLarge, Value}
+use Rattle.lb_model_grammar.specs.Scans.{if_digit, signed}
+use Rattle.lb_model_grammar.specs.WordGrammar.{Keyword, Letters, Nothing}
+use Rattle.lb_model_grammar.specs.Written.{Worth}
+use Rattle.lb_model_grammar.specs.Written.Worth.{Value}
 use Rattle.lb_model_grammar.proofs.LengthReading.{behind-dimen, behind-size, behind-space, sized-equal}
 use Rattle.lb_model_grammar.proofs.DecimalReading.{after-of, behind-digit, behind-fraction, behind-point, behind-quantity, unit-command, unit-space, whole-onto}
 use Rattle.lb_model_grammar.proofs.FilReading.{behind-second, behind-third, three}
 use Rattle.lb_model_grammar.proofs.UnitReading.{all_apart, apart, apart-differs, apart_from, letters-differs, table-differs}
 use Rattle.lb_model_grammar.proofs.WordReading.{behind-blank, behind-letter, none-left}
-use Rattle.lb_model_grammar.proofs.NumberReading.{Alike, grown-alike}
-use Rattle.lb_model_grammar.proofs.NumberReading.Alike.{large as alike_large, same as alike_same}
-use Rattle.lb_model_grammar.proofs.ReadingSteps.{Equal, Has, Same, Step, among-same, nothing-begins, reads-as, reads-behind, reads-equal, reads-or-among, reads-or-as, reads-or-behind, reads-or-behind-full}
-
-
 
 spaced-one : (K : List Given → Worth Scanned → Type 0) → ((all : List Given) (x y : Worth Scanned) → K all x → K all y → x ≡ y) → (all : List Given) (x y : Worth Scanned) → Spaced K all x → Spaced K all y → x ≡ y
 spaced-one K o all x y (bare b k) (bare c l) = o all x y k l
@@ -130,7 +113,7 @@ unit-one table k found f n whole fraction _ x y (unit_blank {t = t} {given = all
     unit-one table k found f n whole fraction all x y r ((unit-space table found n whole fraction t h).onto all y s)
 unit-one table k found f n whole fraction _ x y (unit_internal {t = t} h (dimen {v = v} {given = all} r)) s =
     sized-one found f (xor n (is_negative v)) Finite (times whole fraction (nat_abs v)) all x y r
-      ((behind-dimen found n whole fraction v).onto all y ((unit-command table found n whole fraction t h).onto (AQuantity (quantity.Dimen v) ∷ all) y s))
+    ((behind-dimen found n whole fraction v).onto all y ((unit-command table found n whole fraction t h).onto (AQuantity (quantity.Dimen v) ∷ all) y s))
 unit-one table k found f n whole fraction _ x y (unit_letters {t = t} {given = all} h o) (unit_letters g p) = k n whole fraction (AToken t ∷ all) x y o p
 unit-one table k found f n whole fraction _ x y (unit_letters h o) (unit_blank g r) = let q : true ≡ false = sym h ∙ ap begins_unit g in cc
 unit-one table k found f n whole fraction _ x y (unit_letters h o) (unit_internal g r) = let q : true ≡ false = sym h ∙ ap begins_unit g in cc
@@ -177,11 +160,11 @@ pub dimension-one : (all : List Given) (x y : Worth Scanned) → IsDimension all
 dimension-one = length-one (λ n whole fraction. OneOf (InUnit found_alone n whole fraction) units)
     (λ n whole fraction. one-of-one (InUnit found_alone n whole fraction) (in-unit-one found_alone (λ order v. nothing-one (Value (scanned.Dimen v))) n whole fraction) units refl)
     found_alone (λ order v. nothing-one (Value (scanned.Dimen v))) dimen_alone alone_one false where
-  alone_one : (n : Bool) (q : Quantity) (all : List Given) (x y : Worth Scanned) → dimen_alone n q all x → dimen_alone n q all y → x ≡ y
-  alone_one n (quantity.Dimen v) all x y r s = nothing-one (Value (scanned.Dimen (signed n v))) all x y r s
-  alone_one n quantity.NotOne all x y r s = absurd r
-  alone_one n (quantity.Number v) all x y r s = absurd r
-  alone_one n (quantity.Skip v) all x y r s = absurd r
+      alone_one : (n : Bool) (q : Quantity) (all : List Given) (x y : Worth Scanned) → dimen_alone n q all x → dimen_alone n q all y → x ≡ y
+      alone_one n (quantity.Dimen v) all x y r s = nothing-one (Value (scanned.Dimen (signed n v))) all x y r s
+      alone_one n quantity.NotOne all x y r s = absurd r
+      alone_one n (quantity.Number v) all x y r s = absurd r
+      alone_one n (quantity.Skip v) all x y r s = absurd r
 
 shrink-one : (g : Glue) (all : List Given) (x y : Worth Scanned) → Shrink g all x → Shrink g all y → x ≡ y
 shrink-one g _ _ _ no_shrink no_shrink = refl
@@ -189,14 +172,14 @@ shrink-one g _ _ y no_shrink (shrinks (key_letters b l)) = elim l [ ]
 shrink-one g _ x _ (shrinks (key_letters b l)) no_shrink = elim l [ ]
 shrink-one g all x y (shrinks k) (shrinks l) =
     keyword-one (IsLength (GlueUnit (shrink_found g)) (shrink_found g) (shrink_by g) false)
-      (length-one (GlueUnit (shrink_found g)) (glue-unit-one (shrink_found g) (λ order v. nothing-one (Value (scanned.Skip (shrunk g order v))))) (shrink_found g)
-        (λ order v. nothing-one (Value (scanned.Skip (shrunk g order v)))) (shrink_by g) by_one false)
-      (codes "minus") all x y k l where
-  by_one : (n : Bool) (q : Quantity) (all : List Given) (x y : Worth Scanned) → shrink_by g n q all x → shrink_by g n q all y → x ≡ y
-  by_one n (quantity.Dimen v) all x y r s = nothing-one (Value (scanned.Skip (shrunk g Finite (signed n v)))) all x y r s
-  by_one n quantity.NotOne all x y r s = absurd r
-  by_one n (quantity.Number v) all x y r s = absurd r
-  by_one n (quantity.Skip v) all x y r s = absurd r
+    (length-one (GlueUnit (shrink_found g)) (glue-unit-one (shrink_found g) (λ order v. nothing-one (Value (scanned.Skip (shrunk g order v))))) (shrink_found g)
+    (λ order v. nothing-one (Value (scanned.Skip (shrunk g order v)))) (shrink_by g) by_one false)
+    (codes "minus") all x y k l where
+      by_one : (n : Bool) (q : Quantity) (all : List Given) (x y : Worth Scanned) → shrink_by g n q all x → shrink_by g n q all y → x ≡ y
+      by_one n (quantity.Dimen v) all x y r s = nothing-one (Value (scanned.Skip (shrunk g Finite (signed n v)))) all x y r s
+      by_one n quantity.NotOne all x y r s = absurd r
+      by_one n (quantity.Number v) all x y r s = absurd r
+      by_one n (quantity.Skip v) all x y r s = absurd r
 
 -- a list in which another keyword stands is none of the first one
 other-word : (K L : List Given → Worth Scanned → Type 0) (c : ℕ) (word : List ℕ) (d : ℕ) (other : List ℕ) (all : List Given) (x y : Worth Scanned) → apart (c ∷ word) (d ∷ other) ≡ true
@@ -216,21 +199,21 @@ stretch-one g all x y (stretches k) (no_stretch (shrinks l)) =
     absurd (other-word (IsLength (GlueUnit (shrink_found g)) (shrink_found g) (shrink_by g) false) (IsLength (GlueUnit (stretch_found g)) (stretch_found g) (stretch_by g) false) 109 (codes "inus") 112 (codes "lus") all y x refl l k)
 stretch-one g all x y (stretches k) (stretches l) =
     keyword-one (IsLength (GlueUnit (stretch_found g)) (stretch_found g) (stretch_by g) false)
-      (length-one (GlueUnit (stretch_found g)) (glue-unit-one (stretch_found g) (λ order v. shrink-one (stretched g order v))) (stretch_found g)
-        (λ order v. shrink-one (stretched g order v)) (stretch_by g) by_one false)
-      (codes "plus") all x y k l where
-  by_one : (n : Bool) (q : Quantity) (all : List Given) (x y : Worth Scanned) → stretch_by g n q all x → stretch_by g n q all y → x ≡ y
-  by_one n (quantity.Dimen v) all x y r s = shrink-one (stretched g Finite (signed n v)) all x y r s
-  by_one n quantity.NotOne all x y r s = absurd r
-  by_one n (quantity.Number v) all x y r s = absurd r
-  by_one n (quantity.Skip v) all x y r s = absurd r
+    (length-one (GlueUnit (stretch_found g)) (glue-unit-one (stretch_found g) (λ order v. shrink-one (stretched g order v))) (stretch_found g)
+    (λ order v. shrink-one (stretched g order v)) (stretch_by g) by_one false)
+    (codes "plus") all x y k l where
+      by_one : (n : Bool) (q : Quantity) (all : List Given) (x y : Worth Scanned) → stretch_by g n q all x → stretch_by g n q all y → x ≡ y
+      by_one n (quantity.Dimen v) all x y r s = shrink-one (stretched g Finite (signed n v)) all x y r s
+      by_one n quantity.NotOne all x y r s = absurd r
+      by_one n (quantity.Number v) all x y r s = absurd r
+      by_one n (quantity.Skip v) all x y r s = absurd r
 
 pub glue-one : (all : List Given) (x y : Worth Scanned) → IsGlue all x → IsGlue all y → x ≡ y
 glue-one = length-one (λ n whole fraction. OneOf (InUnit glue_found n whole fraction) units)
     (λ n whole fraction. one-of-one (InUnit glue_found n whole fraction) (in-unit-one glue_found (λ order v. stretch-one (of_width v)) n whole fraction) units refl)
     glue_found (λ order v. stretch-one (of_width v)) glue_by by_one false where
-  by_one : (n : Bool) (q : Quantity) (all : List Given) (x y : Worth Scanned) → glue_by n q all x → glue_by n q all y → x ≡ y
-  by_one n (quantity.Dimen v) all x y r s = stretch-one (of_width (signed n v)) all x y r s
-  by_one n (quantity.Skip g) all x y r s = nothing-one (Value (scanned.Skip (signed_glue n g))) all x y r s
-  by_one n quantity.NotOne all x y r s = absurd r
-  by_one n (quantity.Number v) all x y r s = absurd r
+      by_one : (n : Bool) (q : Quantity) (all : List Given) (x y : Worth Scanned) → glue_by n q all x → glue_by n q all y → x ≡ y
+      by_one n (quantity.Dimen v) all x y r s = stretch-one (of_width (signed n v)) all x y r s
+      by_one n (quantity.Skip g) all x y r s = nothing-one (Value (scanned.Skip (signed_glue n g))) all x y r s
+      by_one n quantity.NotOne all x y r s = absurd r
+      by_one n (quantity.Number v) all x y r s = absurd r

@@ -1,11 +1,9 @@
 -- Readings by a grammar, one token at a time.
-use Rattle.std.proofs.Common.{append-nil, ◌≡◌, ◌∙◌, ◌++◌, ◌<◌, ◌≤◌, List, [], ◌∷◌, length, refl, ap, sym, subst, arith}
-use Rattle.lb_base.specs.declared.fault.Kind.{Kind}
+use Rattle.std.proofs.Common.{append-nil, ◌≡◌, ◌∙◌, ◌++◌, ◌≤◌, List, [], ◌∷◌, length, refl, ap, sym, subst, arith}
 use Rattle.lb_model_grammar.specs.declared.given.Given.{Given}
-use Rattle.lb_model_grammar.specs.declared.given.Want.{Want}
 use Rattle.lb_model_grammar.specs.Scans.{Meant}
 use Rattle.lb_model_grammar.specs.Scans.Meant.{Open, Ended, Wrong}
-use Rattle.lb_model_grammar.specs.Written.{Answers, GoesOn, IsRead, IsTooLarge, NoneBegins, Reads, ReadsOr, Worth}
+use Rattle.lb_model_grammar.specs.Written.{IsRead, NoneBegins, Reads, ReadsOr, Worth}
 use Rattle.lb_model_grammar.specs.Written.ReadsOr.{none, reads}
 use Rattle.lb_model_grammar.specs.Written.Worth.{TooLarge, Value}
 
@@ -109,14 +107,14 @@ as-read : {X : Type 0} {G H : List Given → Worth X → Type 0} {g : Given} →
     → IsRead H (g ∷ given) w rest → IsRead G (g ∷ given) w rest
 as-read {X} {G} {H} {g} s given w rest r =
     record { read = r.read; parts = r.parts; is = same-read s given r.read rest w r.parts r.is; longest = longest }
-    where
-  longest : (more all behind : List Given) (v : Worth X) → g ∷ given ++ more ≡ all ++ behind → G all v → length all ≤ length r.read
-  longest more [] behind v e i = omega arith
-  longest more (h ∷ all) behind v e i =
-      let head : h ≡ g = cc in
-      let is : H (h ∷ all) v =
-          subst (λ (k : Given). H (k ∷ all) v) (sym head) (s.onto all v (subst (λ (k : Given). G (k ∷ all) v) head i)) in
-      r.longest more (h ∷ all) behind v e is
+  where
+    longest : (more all behind : List Given) (v : Worth X) → g ∷ given ++ more ≡ all ++ behind → G all v → length all ≤ length r.read
+    longest more [] behind v e i = omega arith
+    longest more (h ∷ all) behind v e i =
+        let head : h ≡ g = cc in
+        let is : H (h ∷ all) v =
+        subst (λ (k : Given). H (k ∷ all) v) (sym head) (s.onto all v (subst (λ (k : Given). G (k ∷ all) v) head i)) in
+        r.longest more (h ∷ all) behind v e is
 
 pub reads-as : {X : Type 0} {G H : List Given → Worth X → Type 0} {g : Given} → Same G H g → (given : List Given) (m : Meant X)
     → Reads H (g ∷ given) m → Reads G (g ∷ given) m
@@ -199,6 +197,7 @@ among-same {X} {G} {H} {g} s back given = record { into = into; onto = onto } wh
   into more (h ∷ all) behind w e i =
       let head : h ≡ g = cc in
       subst (λ (k : Given). G (k ∷ all) w) (sym head) (s.into all w (subst (λ (k : Given). H (k ∷ all) w) head i))
+
   onto : (more all behind : List Given) (w : Worth X) → g ∷ given ++ more ≡ all ++ behind → G all w → H all w
   onto more [] behind w e i = back w i
   onto more (h ∷ all) behind w e i =

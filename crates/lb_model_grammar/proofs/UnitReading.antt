@@ -1,5 +1,5 @@
 -- What is read of units, by their table.
-use Rattle.std.proofs.Common.{◌≡◌, ◌∙◌, ◌++◌, ◌≤◌, Bool, true, false, ℕ, List, [], ◌∷◌, length, refl, ap, sym, subst, arith}
+use Rattle.std.proofs.Common.{◌≡◌, ◌∙◌, ◌++◌, Bool, true, false, ℕ, List, [], ◌∷◌, refl, ap, sym, subst}
 use Rattle.std.specs.Prelude.{if◌then◌else◌, ◌==◌, ◌&&◌}
 use Rattle.std.proofs.lemmas.Bool.{eq-eqb, eqb-true}
 use Rattle.lb_base.specs.declared.token.Category.TheVariants as category
@@ -14,13 +14,13 @@ use Rattle.lb_model_grammar.specs.Dimensions.{Unit_of}
 use Rattle.lb_model_grammar.specs.LengthGrammar.{OneOf}
 use Rattle.lb_model_grammar.specs.LengthGrammar.OneOf.{here, there}
 use Rattle.lb_model_grammar.specs.Scans.{Meant, is_letter, letters, lower, one_of}
-use Rattle.lb_model_grammar.specs.Scans.Meant.{Open, Ended, Wrong}
+use Rattle.lb_model_grammar.specs.Scans.Meant.{Open}
 use Rattle.lb_model_grammar.specs.WordGrammar.{Letters}
 use Rattle.lb_model_grammar.specs.WordGrammar.Letters.{ended, letter}
-use Rattle.lb_model_grammar.specs.Written.{GoesOn, NoneBegins, Reads, ReadsOr, Worth}
+use Rattle.lb_model_grammar.specs.Written.{ReadsOr, Worth}
 use Rattle.lb_model_grammar.specs.Written.Answers.{expanded}
-use Rattle.lb_model_grammar.specs.Written.ReadsOr.{none, reads}
-use Rattle.lb_model_grammar.proofs.ReadingSteps.{Among, reads-or-among, reads-or-behind, reads-or-equal}
+use Rattle.lb_model_grammar.specs.Written.ReadsOr.{reads}
+use Rattle.lb_model_grammar.proofs.ReadingSteps.{reads-or-among, reads-or-behind, reads-or-equal}
 use Rattle.lb_model_grammar.proofs.WordReading.{behind-letter, letters-spelled, no-letters, none-left, spelled}
 
 -- ---- How a list stands to a word
@@ -164,21 +164,21 @@ table-at : (F : Meant Scanned → Type 0) (K : Unit_of → List Given → Worth 
     → ReadsOr F (OneOf K (u ∷ table)) given (letters u.0 (found u.1) m given)
 table-at F K found u table given some worth m k behind a r (short c left l s) =
     subst (λ (x : Meant Scanned). ReadsOr F (OneOf K (u ∷ table)) given x) (sym (s (found u.1) m))
-      (reads (record { next = AToken (Char category.Letter c); answers = expanded; more = spelled left some; worth = worth; is = here (goes-on (K u.1) some worth k u.0 given c left l) }))
+    (reads (record { next = AToken (Char category.Letter c); answers = expanded; more = spelled left some; worth = worth; is = here (goes-on (K u.1) some worth k u.0 given c left l) }))
 table-at F K found u table given some worth m k behind a r (whole rest l s) =
     subst (λ (x : Meant Scanned). ReadsOr F (OneOf K (u ∷ table)) given x) (sym (s (found u.1) m))
-      (reads-or-among (record { into = λ more all after w e i. here i; onto = onto }) (found u.1 rest) (front-reads F (K u.1) (found u.1 rest) u.0 given rest l (behind rest)))
-    where
-  onto : (more all after : List Given) (w : Worth Scanned) → given ++ more ≡ all ++ after → OneOf K (u ∷ table) all w → Letters (K u.1) u.0 all w
-  onto more all after w e (here i) = i
-  onto more all after w e (there o) = absurd (front-differs u.0 given rest all more after l (table-differs K u.0 table all w a o) e)
+    (reads-or-among (record { into = λ more all after w e i. here i; onto = onto }) (found u.1 rest) (front-reads F (K u.1) (found u.1 rest) u.0 given rest l (behind rest)))
+  where
+    onto : (more all after : List Given) (w : Worth Scanned) → given ++ more ≡ all ++ after → OneOf K (u ∷ table) all w → Letters (K u.1) u.0 all w
+    onto more all after w e (here i) = i
+    onto more all after w e (there o) = absurd (front-differs u.0 given rest all more after l (table-differs K u.0 table all w a o) e)
 table-at F K found u table given some worth m k behind a r (differs d s) =
     subst (λ (x : Meant Scanned). ReadsOr F (OneOf K (u ∷ table)) given x) (sym (s (found u.1) m))
-      (reads-or-among (record { into = λ more all after w e i. there i; onto = onto }) m r)
-    where
-  onto : (more all after : List Given) (w : Worth Scanned) → given ++ more ≡ all ++ after → OneOf K (u ∷ table) all w → OneOf K table all w
-  onto more all after w e (here i) = absurd (letters-differs (K u.1) u.0 given all more after w d i e)
-  onto more all after w e (there o) = o
+    (reads-or-among (record { into = λ more all after w e i. there i; onto = onto }) m r)
+  where
+    onto : (more all after : List Given) (w : Worth Scanned) → given ++ more ≡ all ++ after → OneOf K (u ∷ table) all w → OneOf K table all w
+    onto more all after w e (here i) = absurd (letters-differs (K u.1) u.0 given all more after w d i e)
+    onto more all after w e (there o) = o
 
 -- of each unit what stands behind it is read, and there is such a thing
 pub data Each (F : Meant Scanned → Type 0) (K : Unit_of → List Given → Worth Scanned → Type 0) (found : Unit_of → List Given → Meant Scanned) : List (List ℕ × Unit_of) → Type 0 where

@@ -1,6 +1,6 @@
 -- What is read of a word, by the grammar.
-use Rattle.std.proofs.Common.{◌≡◌, ◌∙◌, ◌++◌, ◌≤◌, Bool, true, false, ℕ, List, [], ◌∷◌, length, map, refl, ap, sym, subst, arith}
-use Rattle.std.specs.Prelude.{if◌then◌else◌, nat_eq}
+use Rattle.std.proofs.Common.{◌≡◌, ◌≤◌, Bool, true, false, ℕ, List, [], ◌∷◌, length, refl, subst, arith}
+use Rattle.std.specs.Prelude.{if◌then◌else◌}
 use Rattle.std.proofs.lemmas.Bool.{eq-eqb}
 use Rattle.lb_base.specs.declared.fault.Kind.{Kind}
 use Rattle.lb_base.specs.declared.token.Category.TheVariants as category
@@ -11,10 +11,9 @@ use Rattle.lb_model_grammar.specs.declared.given.Given.TheVariants.{Tok as AToke
 use Rattle.lb_model_grammar.specs.declared.given.Scanned.{Scanned}
 use Rattle.lb_model_grammar.specs.declared.given.Scanned.TheVariants as scanned
 use Rattle.lb_model_grammar.specs.declared.given.Want.{Want}
-use Rattle.lb_model_grammar.specs.declared.given.Want.TheVariants as want
 use Rattle.lb_model_grammar.specs.Scans.{Meant, is_letter, is_space, keyword, letters, lower}
 use Rattle.lb_model_grammar.specs.Scans.Meant.{Open, Ended, Wrong}
-use Rattle.lb_model_grammar.specs.WordGrammar.{IsKeyword, Keyword, Letters, Nothing, begins_blank}
+use Rattle.lb_model_grammar.specs.WordGrammar.{IsKeyword, Keyword, Letters, Nothing}
 use Rattle.lb_model_grammar.specs.WordGrammar.Keyword.{blank, letters as the_letters}
 use Rattle.lb_model_grammar.specs.WordGrammar.Letters.{ended, letter}
 use Rattle.lb_model_grammar.specs.WordGrammar.Nothing.{more as nothing_more}
@@ -109,8 +108,8 @@ keyword-reads F K found missing f some worth k behind c word [] =
     reads (record { next = AToken (Char category.Letter c); answers = expanded; more = spelled word some; worth = worth; is = the_letters refl (letters-spelled K (c ∷ word) some worth k) })
 keyword-reads F K found missing f some worth k behind c word (AToken t ∷ given) =
     keyword-at F K c word t given (keyword (c ∷ word) found missing given) (letters (c ∷ word) found missing (AToken t ∷ given))
-      (keyword-reads F K found missing f some worth k behind c word given)
-      (letters-reads F K found missing f some worth k behind (c ∷ word) (AToken t ∷ given)) (is_space t) refl
+    (keyword-reads F K found missing f some worth k behind c word given)
+    (letters-reads F K found missing f some worth k behind (c ∷ word) (AToken t ∷ given)) (is_space t) refl
 keyword-reads F K found missing f some worth k behind c word (AQuantity q ∷ given) =
     none f (nothing-begins (Keyword K (c ∷ word)) (AQuantity q) given (no-keyword K c word) (λ all w l. elim l [ the_letters b r ↦ elim r [ ] ]))
 keyword-reads F K found missing f some worth k behind c word (End ∷ given) =
@@ -128,9 +127,9 @@ word-reads : (c : ℕ) (word : List ℕ) (all given : List Given)
     → ReadsOr (λ m. m ≡ Ended (scanned.Found false) all) (Word c word) given (keyword (c ∷ word) (Ended (scanned.Found true)) (Ended (scanned.Found false) all) given)
 word-reads c word all given =
     keyword-reads (λ m. m ≡ Ended (scanned.Found false) all) (Nothing (Value (scanned.Found true))) (Ended (scanned.Found true)) (Ended (scanned.Found false) all)
-      refl [] (Value (scanned.Found true)) nothing_more
-      (λ rest. reads (record { read = []; parts = refl; is = nothing_more; longest = λ more al behind w e i. no-more (Value (scanned.Found true)) w more al behind i }))
-      c word given
+    refl [] (Value (scanned.Found true)) nothing_more
+    (λ rest. reads (record { read = []; parts = refl; is = nothing_more; longest = λ more al behind w e i. no-more (Value (scanned.Found true)) w more al behind i }))
+    c word given
 
 abbrev Means : ℕ → List ℕ → List Given → Meant Scanned
 Means c word given = keyword (c ∷ word) (Ended (scanned.Found true)) (Ended (scanned.Found false) given) given

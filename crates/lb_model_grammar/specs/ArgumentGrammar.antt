@@ -1,5 +1,5 @@
 -- What is an argument of a macro (TeXbook, chapter 20), as lists of tokens.
-use Rattle.std.specs.Prelude.{◌≡◌, ◌≤◌, ◌<◌, ◌++◌, ◌&&◌, Bool, true, false, not, ℕ, List, [], ◌∷◌, length, map, Option, Some, None}
+use Rattle.std.specs.Prelude.{◌≡◌, ◌≤◌, ◌<◌, ◌++◌, ◌&&◌, Bool, true, false, not, ℕ, List, [], ◌∷◌, length, Option, Some, None}
 use Rattle.lb_base.specs.declared.token.Tok.{Tok}
 use Rattle.lb_model_grammar.specs.declared.given.Given.{Given}
 use Rattle.lb_model_grammar.specs.declared.given.Given.TheVariants.{Tok as AToken, Quantity as AQuantity, End}

@@ -6,7 +6,7 @@ use Rattle.lb_base.specs.declared.glue.Order.{Order}
 use Rattle.lb_base.specs.declared.glue.Order.TheVariants.{Finite}
 use Rattle.lb_base.specs.declared.token.Tok.{Tok}
 use Rattle.lb_model_grammar.specs.declared.class.Class.{Class}
-use Rattle.lb_model_grammar.specs.declared.class.Class.TheVariants.{Space, Plus, Minus, Digit, Octal, Hexadecimal, Quote, Point, Command, Other}
+use Rattle.lb_model_grammar.specs.declared.class.Class.TheVariants.{Space, Plus, Minus, Digit, Point, Command}
 use Rattle.lb_model_grammar.specs.declared.given.Given.{Given}
 use Rattle.lb_model_grammar.specs.declared.given.Given.TheVariants.{Tok as AToken, Quantity as AQuantity}
 use Rattle.lb_model_grammar.specs.declared.given.Quantity.{Quantity}

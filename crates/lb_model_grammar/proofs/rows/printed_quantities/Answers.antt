@@ -1,4 +1,4 @@
-use Rattle.std.proofs.Common.{◌≡◌, List, ℕ, [], ◌∷◌, ◌++◌, Some, codes, ap, ◌∙◌, arith, decimal}
+use Rattle.std.proofs.Common.{◌≡◌, List, ℕ, [], ◌∷◌, ◌++◌, Some, codes, ap, arith, decimal}
 use Rattle.std.proofs.lemmas.Fmt.{decimal_digit}
 use Rattle.lb_base.specs.Decimals.{places_of, last_digits, fraction_digits, ascii_digits}
 use Rattle.lb_model_grammar.proofs.rows.printed_quantities.Goals as goal
