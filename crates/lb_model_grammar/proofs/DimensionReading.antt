@@ -51,7 +51,7 @@ pub units-each : (u : Uses) (found : Order → ℤ → List Given → Worth Scan
     → ((order : Order) (v : ℤ) (given : List Given) → Reads (found order v) given (u.found order v given))
     → (n : Bool) (whole fraction : ℕ) → Each (Lacks u) (InUnit found n whole fraction) (in_unit u n whole fraction) units
 units-each u found h r n whole fraction =
-    physical 1 1 (physical 7227 100 (physical 12 1 (physical 7227 254 (physical 7227 2540 (physical 7227 7200 (physical 1238 1157 (physical 14856 1157
+    physical _ _ (physical _ _ (physical _ _ (physical _ _ (physical _ _ (physical _ _ (physical _ _ (physical _ _
     (next scaled.some scaled.worth scaled.is (λ rest. reads (spaced-size u found h r n Finite whole rest))
     (next font.some font.worth font.is (font-reads u found h r want.Em em n whole fraction)
     (next font.some font.worth font.is (font-reads u found h r want.Ex ex n whole fraction) no_more)))))))))) where

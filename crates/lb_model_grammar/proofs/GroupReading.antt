@@ -8,9 +8,10 @@ use Rattle.lb_base.specs.declared.token.Tok.TheVariants.{Char, Word, Active, Par
 use Rattle.lb_model_grammar.specs.declared.class.Brace.{Brace}
 use Rattle.lb_model_grammar.specs.declared.given.Given.{Given}
 use Rattle.lb_model_grammar.specs.declared.given.Given.TheVariants.{Tok as AToken, Quantity as AQuantity, End}
-use Rattle.lb_model_grammar.specs.ArgumentGrammar.{ClosesAtBase, Fits, IsGroup, IsUndelimited, Stops, before, is_barred, levels}
+use Rattle.lb_model_grammar.specs.ArgumentGrammar.{ClosesAtBase, ClosesFirst, Fits, IsGroup, IsUndelimited, Stops, before, is_barred, levels}
 use Rattle.lb_model_grammar.specs.ArgumentGrammar.Fits.{nothing, token}
 use Rattle.lb_model_grammar.specs.ArgumentGrammar.IsUndelimited.{blank, group as a_group, token as a_token}
+use Rattle.lb_model_grammar.specs.ArgumentGrammar.ClosesFirst.{blank as first_blank, closing as first_closing}
 use Rattle.lb_model_grammar.specs.ArgumentGrammar.Stops.{end as stop_end, later as stop_later, paragraph as stop_paragraph, quantity as stop_quantity}
 use Rattle.lb_model_grammar.specs.Arguments.{Begun, at_base, begins, brace_of, but_last, closes, closes_at_end, delimited, delimited_as, delimited_by, group, group_as, is_par, level_then, longer, one_less, opens, undelimited, undelimited_as, without_braces}
 use Rattle.lb_model_grammar.specs.Arguments.Begun.{Cut, Does, DoesNot, May}
@@ -306,3 +307,87 @@ stops-from long delimiter level body (End ∷ given) e = stop_end
 
 pub runs-away : (long : Bool) (delimiter : List Tok) (given : List Given) → delimited long delimiter 0 [] given ≡ Wrong Runaway → Stops long given
 runs-away long delimiter given e = stops-from long delimiter 0 [] given e
+
+-- ---- Where no undelimited argument is
+
+stop-then : (long : Bool) (body : List Tok) (t : Tok) (given : List Given) (more : List Tok → Meant (List Tok)) → longer body t more ≡ Wrong Runaway
+    → (more (body ++ t ∷ []) ≡ Wrong Runaway → Stops long given) → Stops long (AToken t ∷ given)
+stop-then long body t given more e ih = stop_later (ih (ran-on body t more e))
+
+group-stops-at : (long : Bool) (level : ℕ) (body : List Tok) (t : Tok) (given : List Given) → ((l : ℕ) (b : List Tok) → group long l b given ≡ Wrong Runaway → Stops long given)
+    → Stands long t → group_as (brace_of long t) level body t (λ l b. group long l b given) given ≡ Wrong Runaway → Stops long (AToken t ∷ given)
+group-stops-at long level body t given ih (opening k o l f) e =
+    stop-then long body t given (λ b. group long (suc level) b given) (sym (ap (λ (x : Brace). group_as x level body t (λ l b. group long l b given) given) k) ∙ e)
+      (ih (suc level) (body ++ t ∷ []))
+group-stops-at long zero body t given ih (closing k c l f) e =
+    let q : Ended body given ≡ Wrong Runaway = sym (ap (λ (x : Brace). group_as x 0 body t (λ l b. group long l b given) given) k) ∙ e in cc
+group-stops-at long (suc level) body t given ih (closing k c l f) e =
+    stop-then long body t given (λ b. group long level b given) (sym (ap (λ (x : Brace). group_as x (suc level) body t (λ l b. group long l b given) given) k) ∙ e)
+      (ih level (body ++ t ∷ []))
+group-stops-at long level body t given ih (paragraph k f) e = stop_paragraph f
+group-stops-at long level body t given ih (plain k o c l f) e =
+    stop-then long body t given (λ b. group long level b given) (sym (ap (λ (x : Brace). group_as x level body t (λ l b. group long l b given) given) k) ∙ e)
+      (ih level (body ++ t ∷ []))
+
+group-stops : (long : Bool) (level : ℕ) (body : List Tok) (given : List Given) → group long level body given ≡ Wrong Runaway → Stops long given
+group-stops long level body [] e = cc
+group-stops long level body (AToken t ∷ given) e = group-stops-at long level body t given (λ l b. group-stops long l b given) (stands long t) e
+group-stops long level body (AQuantity q ∷ given) e = stop_quantity
+group-stops long level body (End ∷ given) e = stop_end
+
+undelimited-stops-at : (long : Bool) (t : Tok) (given : List Given) → (undelimited long given ≡ Wrong Runaway → Stops long given) → Stands long t
+    → undelimited_as (brace_of long t) long t (undelimited long given) given ≡ Wrong Runaway → Stops long (AToken t ∷ given)
+undelimited-stops-at long t given ih (opening k o l f) e =
+    stop_later (group-stops long 0 [] given (sym (ap (λ (x : Brace). undelimited_as x long t (undelimited long given) given) k) ∙ e))
+undelimited-stops-at long t given ih (closing k c l f) e =
+    let q : Wrong UseMismatch ≡ Wrong Runaway = sym (ap (λ (x : Brace). undelimited_as x long t (undelimited long given) given) k) ∙ e in cc
+undelimited-stops-at long t given ih (paragraph k f) e = stop_paragraph f
+undelimited-stops-at long t given ih (plain k o c l f) e =
+    by (is_space t) (sym (ap (λ (x : Brace). undelimited_as x long t (undelimited long given) given) k) ∙ e) where
+  by : (b : Bool) → (if b then undelimited long given else Ended (t ∷ []) given) ≡ Wrong Runaway → Stops long (AToken t ∷ given)
+  by true q = stop_later (ih q)
+  by false q = cc
+
+pub undelimited-stops : (long : Bool) (given : List Given) → undelimited long given ≡ Wrong Runaway → Stops long given
+undelimited-stops long [] e = cc
+undelimited-stops long (AToken t ∷ given) e = undelimited-stops-at long t given (undelimited-stops long given) (stands long t) e
+undelimited-stops long (AQuantity q ∷ given) e = stop_quantity
+undelimited-stops long (End ∷ given) e = stop_end
+
+group-fits-at : (long : Bool) (level : ℕ) (body : List Tok) (t : Tok) (given : List Given) → ((l : ℕ) (b : List Tok) → group long l b given ≡ Wrong UseMismatch → ⊥)
+    → Stands long t → group_as (brace_of long t) level body t (λ l b. group long l b given) given ≡ Wrong UseMismatch → ⊥
+group-fits-at long level body t given ih (opening k o l f) e =
+    ih (suc level) (body ++ t ∷ []) (went-on body t (λ b. group long (suc level) b given) (sym (ap (λ (x : Brace). group_as x level body t (λ l b. group long l b given) given) k) ∙ e))
+group-fits-at long zero body t given ih (closing k c l f) e =
+    let q : Ended body given ≡ Wrong UseMismatch = sym (ap (λ (x : Brace). group_as x 0 body t (λ l b. group long l b given) given) k) ∙ e in cc
+group-fits-at long (suc level) body t given ih (closing k c l f) e =
+    ih level (body ++ t ∷ []) (went-on body t (λ b. group long level b given) (sym (ap (λ (x : Brace). group_as x (suc level) body t (λ l b. group long l b given) given) k) ∙ e))
+group-fits-at long level body t given ih (paragraph k f) e =
+    let q : Wrong Runaway ≡ Wrong UseMismatch = sym (ap (λ (x : Brace). group_as x level body t (λ l b. group long l b given) given) k) ∙ e in cc
+group-fits-at long level body t given ih (plain k o c l f) e =
+    ih level (body ++ t ∷ []) (went-on body t (λ b. group long level b given) (sym (ap (λ (x : Brace). group_as x level body t (λ l b. group long l b given) given) k) ∙ e))
+
+group-fits : (long : Bool) (level : ℕ) (body : List Tok) (given : List Given) → group long level body given ≡ Wrong UseMismatch → ⊥
+group-fits long level body [] e = cc
+group-fits long level body (AToken t ∷ given) e = group-fits-at long level body t given (λ l b. group-fits long l b given) (stands long t) e
+group-fits long level body (AQuantity q ∷ given) e = cc
+group-fits long level body (End ∷ given) e = cc
+
+closes-first-at : (long : Bool) (t : Tok) (given : List Given) → (undelimited long given ≡ Wrong UseMismatch → ClosesFirst given) → Stands long t
+    → undelimited_as (brace_of long t) long t (undelimited long given) given ≡ Wrong UseMismatch → ClosesFirst (AToken t ∷ given)
+closes-first-at long t given ih (opening k o l f) e =
+    absurd (group-fits long 0 [] given (sym (ap (λ (x : Brace). undelimited_as x long t (undelimited long given) given) k) ∙ e))
+closes-first-at long t given ih (closing k c l f) e = first_closing c
+closes-first-at long t given ih (paragraph k f) e =
+    let q : Wrong Runaway ≡ Wrong UseMismatch = sym (ap (λ (x : Brace). undelimited_as x long t (undelimited long given) given) k) ∙ e in cc
+closes-first-at long t given ih (plain k o c l f) e =
+    by (is_space t) refl (sym (ap (λ (x : Brace). undelimited_as x long t (undelimited long given) given) k) ∙ e) where
+  by : (b : Bool) → is_space t ≡ b → (if b then undelimited long given else Ended (t ∷ []) given) ≡ Wrong UseMismatch → ClosesFirst (AToken t ∷ given)
+  by true s q = first_blank s (ih q)
+  by false s q = cc
+
+pub closes-first : (long : Bool) (given : List Given) → undelimited long given ≡ Wrong UseMismatch → ClosesFirst given
+closes-first long [] e = cc
+closes-first long (AToken t ∷ given) e = closes-first-at long t given (closes-first long given) (stands long t) e
+closes-first long (AQuantity q ∷ given) e = cc
+closes-first long (End ∷ given) e = cc

@@ -78,3 +78,8 @@ pub data IsUndelimited (long : Bool) : List Given → List Tok → List Given �
       → IsUndelimited long (AToken t ∷ rest) (t ∷ []) rest
   group : {opening : Tok} (closing : Tok) {arg : List Tok} {given rest : List Given} → opens opening ≡ true → closes closing ≡ true → IsBalanced arg → Fits long arg
       → given ≡ before arg (AToken closing ∷ rest) → IsUndelimited long (AToken opening ∷ given) arg rest
+
+-- spaces, and then a closing brace
+pub data ClosesFirst : List Given → Type 0 where
+  blank : {t : Tok} {given : List Given} → is_space t ≡ true → ClosesFirst given → ClosesFirst (AToken t ∷ given)
+  closing : {t : Tok} {given : List Given} → closes t ≡ true → ClosesFirst (AToken t ∷ given)

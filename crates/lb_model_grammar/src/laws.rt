@@ -9,7 +9,7 @@ ghost use Rattle.lb_model_grammar.specs.declared.given.Scanned.{Scanned};
 ghost use Rattle.lb_model_grammar.specs.declared.given.Want.{Want};
 ghost use Rattle.lb_model_grammar.specs.declared.given.ScanKind.TheVariants.{Keyword};
 ghost use Rattle.lb_model_grammar.specs.declared.given.Scanned.TheVariants.{Found};
-ghost use Rattle.lb_model_grammar.specs.ArgumentGrammar.{ClosesAtBase, IsDelimited, IsGroup, IsUndelimited, NoneDelimited, OnlyLonger, Stops};
+ghost use Rattle.lb_model_grammar.specs.ArgumentGrammar.{ClosesAtBase, ClosesFirst, IsDelimited, IsGroup, IsUndelimited, NoneDelimited, OnlyLonger, Stops};
 ghost use Rattle.lb_model_grammar.specs.Arguments.{argument, without_braces};
 ghost use Rattle.lb_model_grammar.specs.Dimensions.{dimension, glue, meant};
 ghost use Rattle.lb_model_grammar.specs.GlueGrammar.{IsGlue};
@@ -86,9 +86,12 @@ pub fn delimited_arguments_read()
     ensures braces_stay { (body : List Tok) → ((inner : List Tok) → IsGroup body inner → ⊥) → without_braces body ≡ body }
 {}
 
-/// An argument without a delimiter is one token, or one group without its braces, behind spaces.
+/// An argument without a delimiter is one token, or one group without its braces, behind spaces. Where there is none, a closing brace stands
+/// behind the spaces, or the text or a paragraph ends.
 pub fn undelimited_arguments_read()
-    ensures { (long : Bool) (given rest : List Given) (arg : List Tok) → argument long [] given ≡ Ended arg rest → IsUndelimited long given arg rest }
+    ensures read { (long : Bool) (given rest : List Given) (arg : List Tok) → argument long [] given ≡ Ended arg rest → IsUndelimited long given arg rest }
+    ensures mismatch { (long : Bool) (given : List Given) → argument long [] given ≡ Wrong UseMismatch → ClosesFirst given }
+    ensures runaway { (long : Bool) (given : List Given) → argument long [] given ≡ Wrong Runaway → Stops long given }
 {}
 
 /// The same of glue, whose grammar has internal glue, and a dimension with what it stretches and shrinks by. A part that does not come is not of
