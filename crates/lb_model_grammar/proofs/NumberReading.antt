@@ -1,5 +1,5 @@
 -- What is read of a number, by the grammar.
-use Rattle.std.proofs.Common.{◌≡◌, ◌∙◌, ◌+◌, ◌*◌, ◌≤◌, Bool, true, false, not, ℕ, ℤ, pos, nat_lt, List, [], ◌∷◌, Some, None, refl, ap, sym, subst, arith, inl, inr}
+use Rattle.std.proofs.Common.{append-nil, append_assoc, ◌++◌, length, ◌≡◌, ◌∙◌, ◌+◌, ◌*◌, ◌≤◌, Bool, true, false, not, ℕ, ℤ, pos, nat_lt, List, [], ◌∷◌, Some, None, refl, ap, sym, subst, arith, inl, inr}
 use Rattle.std.specs.Prelude.{◌⊎◌, Option, if◌then◌else◌, min}
 use Rattle.std.proofs.Math.Nat.{min-eq_left, min-eq_right}
 use Rattle.std.proofs.lemmas.Bool.{le-ltb}
@@ -27,11 +27,11 @@ use Rattle.lb_model_grammar.specs.NumberGrammar.IsNumber.{blank, character as a_
 use Rattle.lb_model_grammar.specs.Numbers.{character, closed, ended, internal, number, number_as}
 use Rattle.lb_model_grammar.specs.Scans.{Meant, class_of, digit_of, digits, grown, if_digit, is_space, signed, some_digits}
 use Rattle.lb_model_grammar.specs.Scans.Meant.{Open, Ended, Wrong}
-use Rattle.lb_model_grammar.specs.Written.{GoesOn, IsRead, IsTooLarge, NoneBegins, Reads, ReadsOr, Worth}
+use Rattle.lb_model_grammar.specs.Written.{GoesOn, IsRead, IsTooLarge, NoneBegins, Reads, ReadsOr, Worth, outcome}
 use Rattle.lb_model_grammar.specs.Written.Answers.{expanded, plain, quantity as a_quantity}
 use Rattle.lb_model_grammar.specs.Written.ReadsOr.{none, reads}
 use Rattle.lb_model_grammar.specs.Written.Worth.{TooLarge, Value}
-use Rattle.lb_model_grammar.proofs.ReadingSteps.{Step, ends-before, ends-with, nothing-begins, outcome, reads-as, reads-behind, reads-or-behind}
+use Rattle.lb_model_grammar.proofs.ReadingSteps.{Step, ends-before, ends-with, nothing-begins, reads-as, reads-behind, reads-or-behind}
 
 -- ---- Values that are alike from the limit on
 
@@ -401,3 +401,73 @@ number-faults given kind e = by (number-reads false given) where
   by (reads r) =
       let t : IsTooLarge (IsNumber false) given kind = subst (λ (m : Meant Scanned). Reads (IsNumber false) given m) e r in
       inl (number-fine false t.is.read (TooLarge kind) t.is.is)
+
+-- ---- Each number is read
+
+-- no end of the text is of it
+abbrev NoEnd : List Given → Type 0
+NoEnd [] = Unit {0}
+NoEnd (AToken t ∷ given) = NoEnd given
+NoEnd (AQuantity q ∷ given) = NoEnd given
+NoEnd (End ∷ given) = ⊥
+
+closing-no-end : (n : Bool) (v : ℕ) (all : List Given) (w : Worth Scanned) → Closing n v all w → NoEnd all
+closing-no-end n v _ w bare = tt
+closing-no-end n v _ w (space s) = tt
+
+digits-no-end : (base : ℕ) (n : Bool) (v : ℕ) (all : List Given) (w : Worth Scanned) → Digits base (Closing n) v all w → NoEnd all
+digits-no-end base n v all w (last k) = closing-no-end n v all w k
+digits-no-end base n v _ w (digit {d = d} {given = all} h r) = digits-no-end base n (base * v + d) all w r
+
+first-no-end : (base : ℕ) (n : Bool) (all : List Given) (w : Worth Scanned) → FirstDigit base n all w → NoEnd all
+first-no-end base n _ w (first {d = d} {given = all} h r) = digits-no-end base n d all w r
+
+character-no-end : (n : Bool) (all : List Given) (w : Worth Scanned) → Character n all w → NoEnd all
+character-no-end n _ w (code {c = c} {given = all} h r) = closing-no-end n c all w r
+
+number-no-end : (n : Bool) (all : List Given) (w : Worth Scanned) → IsNumber n all w → NoEnd all
+number-no-end n _ w (blank {given = all} h r) = number-no-end n all w r
+number-no-end n _ w (plus {given = all} h r) = number-no-end n all w r
+number-no-end n _ w (minus {given = all} h r) = number-no-end (not n) all w r
+number-no-end n _ w (decimal {d = d} {given = all} h r) = digits-no-end 10 n d all w r
+number-no-end n _ w (octal {given = all} h r) = first-no-end 8 n all w r
+number-no-end n _ w (hexadecimal {given = all} h r) = first-no-end 16 n all w r
+number-no-end n _ w (a_character {given = all} h r) = character-no-end n all w r
+number-no-end n _ w (an_internal h the_number) = tt
+
+end-inside : (given more : List Given) → NoEnd (given ++ End ∷ more) → ⊥
+end-inside [] more n = n
+end-inside (AToken t ∷ given) more n = end-inside given more n
+end-inside (AQuantity q ∷ given) more n = end-inside given more n
+end-inside (End ∷ given) more n = n
+
+no-end-behind : (g : Given) (given : List Given) → NoEnd (g ∷ given) → NoEnd given
+no-end-behind (AToken t) given n = n
+no-end-behind (AQuantity q) given n = n
+no-end-behind End given n = absurd n
+
+all-read : (read all rest : List Given) → NoEnd read → length all ≤ length read → all ++ End ∷ [] ≡ read ++ rest → (read ≡ all) × (rest ≡ End ∷ [])
+all-read [] [] rest n l e = (refl, sym e)
+all-read (g ∷ read) [] rest n l e = let head : g ≡ End = cc in absurd (subst (λ (k : Given). NoEnd (k ∷ read)) head n)
+all-read [] (h ∷ all) rest n l e = absurd (omega (arith, l))
+all-read (g ∷ read) (h ∷ all) rest n l e =
+    let head : g ≡ h = cc in
+    let tail : all ++ End ∷ [] ≡ read ++ rest = cc in
+    let s = all-read read all rest (no-end-behind g read n) (omega (arith, l)) tail in
+    ((λ i. head i ∷ s.0 i), s.1)
+
+pub each-number : (all : List Given) (w : Worth Scanned) → IsNumber false all w → number false (all ++ End ∷ []) ≡ outcome w (End ∷ [])
+each-number all w is = by (number false (all ++ End ∷ [])) (number-reads false (all ++ End ∷ [])) where
+  same : (rest : List Given) (x : Worth Scanned) → IsRead (IsNumber false) (all ++ End ∷ []) x rest → (x ≡ w) × (rest ≡ End ∷ [])
+  same rest x r =
+      let l : length all ≤ length r.read = r.longest [] all (End ∷ []) w (append-nil (all ++ End ∷ [])) is in
+      let s = all-read r.read all rest (number-no-end false r.read x r.is) l r.parts in
+      (number-one false all x w (subst (λ (k : List Given). IsNumber false k x) s.0 r.is) is, s.1)
+  inside : (g : Given) (more : List Given) (x : Worth Scanned) → IsNumber false ((all ++ End ∷ []) ++ g ∷ more) x → ⊥
+  inside g more x i =
+      end-inside all (g ∷ more) (subst NoEnd (append_assoc all (End ∷ []) (g ∷ more)) (number-no-end false ((all ++ End ∷ []) ++ g ∷ more) x i))
+  by : (m : Meant Scanned) → ReadsOr Missing (IsNumber false) (all ++ End ∷ []) m → m ≡ outcome w (End ∷ [])
+  by m (none f n) = absurd (n [] all (End ∷ []) w (append-nil (all ++ End ∷ [])) is)
+  by (Open want) (reads r) = absurd (inside r.next r.more r.worth r.is)
+  by (Ended x rest) (reads r) = let s = same rest (Value x) r in λ i. outcome (s.0 i) (s.1 i)
+  by (Wrong kind) (reads r) = let s = same r.rest (TooLarge kind) r.is in λ i. outcome (s.0 i) (s.1 i)

@@ -3,7 +3,7 @@ use Rattle.std.proofs.Common.{append-nil, ◌≡◌, ◌∙◌, ◌++◌, ◌≤
 use Rattle.lb_model_grammar.specs.declared.given.Given.{Given}
 use Rattle.lb_model_grammar.specs.Scans.{Meant}
 use Rattle.lb_model_grammar.specs.Scans.Meant.{Open, Ended, Wrong}
-use Rattle.lb_model_grammar.specs.Written.{IsRead, NoneBegins, Reads, ReadsOr, Worth}
+use Rattle.lb_model_grammar.specs.Written.{IsRead, NoneBegins, Reads, ReadsOr, Worth, outcome}
 use Rattle.lb_model_grammar.specs.Written.ReadsOr.{none, reads}
 use Rattle.lb_model_grammar.specs.Written.Worth.{TooLarge, Value}
 
@@ -48,11 +48,6 @@ reads-or-behind s empty given m (reads r) = reads (reads-behind s given m r)
 reads-or-behind s empty given m (none f n) = none f (none-behind s empty given n)
 
 -- ---- Ends
-
--- what is meant by this much and nothing more
-abbrev pub outcome : {X : Type 0} → Worth X → List Given → Meant X
-outcome (Value x) rest = Ended x rest
-outcome (TooLarge kind) rest = Wrong kind
 
 of-outcome : {X : Type 0} {G : List Given → Worth X → Type 0} (given rest : List Given) (w : Worth X) → IsRead G given w rest → Reads G given (outcome w rest)
 of-outcome given rest (Value x) r = r

@@ -59,3 +59,8 @@ Reads G given (Wrong kind) = IsTooLarge G given kind
 pub data ReadsOr {X : Type 0} (missing : Meant X → Type 0) (G : List Given → Worth X → Type 0) (given : List Given) (meant : Meant X) : Type 0 where
   reads : Reads G given meant → ReadsOr missing G given meant
   none : missing meant → NoneBegins G given → ReadsOr missing G given meant
+
+-- what is meant where this is read, and this stands behind it
+abbrev pub outcome : {X : Type 0} → Worth X → List Given → Meant X
+outcome (Value x) rest = Ended x rest
+outcome (TooLarge kind) rest = Wrong kind

@@ -1,10 +1,11 @@
 //! Laws of readings, by grammars of what may be written.
-ghost use Rattle.std.specs.Prelude.{◌≡◌, ◌↔◌, ◌⊎◌, IsTrue, Bool, ℕ, List, [], ◌∷◌, true, false};
+ghost use Rattle.std.specs.Prelude.{◌≡◌, ◌++◌, ◌↔◌, ◌⊎◌, IsTrue, Bool, ℕ, List, [], ◌∷◌, true, false};
 ghost use Rattle.lb_base.specs.declared.fault.Kind.{Kind};
 ghost use Rattle.lb_base.specs.declared.fault.Kind.TheVariants.{DepthLimit, DimenTooLarge, NumberMissing, NumberTooBig, Runaway, UnitMissing, UseMismatch};
 ghost use Rattle.lb_base.specs.declared.token.Tok.{Tok};
 ghost use Rattle.lb_model_grammar.specs.Same.{tok_eq};
 ghost use Rattle.lb_model_grammar.specs.declared.given.Given.{Given};
+ghost use Rattle.lb_model_grammar.specs.declared.given.Given.TheVariants.{End};
 ghost use Rattle.lb_model_grammar.specs.declared.given.Scanned.{Scanned};
 ghost use Rattle.lb_model_grammar.specs.declared.given.Want.{Want};
 ghost use Rattle.lb_model_grammar.specs.declared.given.ScanKind.TheVariants.{Keyword};
@@ -18,18 +19,19 @@ ghost use Rattle.lb_model_grammar.specs.WordGrammar.{IsKeyword};
 ghost use Rattle.lb_model_grammar.specs.NumberGrammar.{IsNumber};
 ghost use Rattle.lb_model_grammar.specs.Numbers.{number};
 ghost use Rattle.lb_model_grammar.specs.Scans.Meant.{Open, Ended, Wrong};
-ghost use Rattle.lb_model_grammar.specs.Written.{GoesOn, IsRead, IsTooLarge, NoneBegins, Worth};
+ghost use Rattle.lb_model_grammar.specs.Written.{GoesOn, IsRead, IsTooLarge, NoneBegins, Worth, outcome};
 ghost use Rattle.lb_model_grammar.specs.Written.Worth.{Value};
 
 /// What is read as a number is written by the grammar of numbers, is worth that value, and no longer number begins there. A reading goes on
 /// exactly as long as the grammar has a number that begins with all that was given. A number is too big where one that is begins there, and
-/// missing where none does. A list is one number at most.
+/// missing where none does. Each number that the text ends behind is read. A list is one number at most.
 pub fn numbers_read()
     ensures read { (given rest : List Given) (x : Scanned) → number false given ≡ Ended x rest → IsRead (IsNumber false) given (Value x) rest }
     ensures goes_on { (given : List Given) (want : Want) → number false given ≡ Open want → GoesOn (IsNumber false) given want }
     ensures too_big { (given : List Given) → number false given ≡ Wrong NumberTooBig → IsTooLarge (IsNumber false) given NumberTooBig }
     ensures missing { (given : List Given) → number false given ≡ Wrong NumberMissing → NoneBegins (IsNumber false) given }
     ensures no_other_fault { (given : List Given) (kind : Kind) → number false given ≡ Wrong kind → (kind ≡ NumberTooBig) ⊎ (kind ≡ NumberMissing) }
+    ensures each { (all : List Given) (w : Worth Scanned) → IsNumber false all w → number false (all ++ End ∷ []) ≡ outcome w (End ∷ []) }
     ensures one_worth { (all : List Given) (x y : Worth Scanned) → IsNumber false all x → IsNumber false all y → x ≡ y }
 {}
 

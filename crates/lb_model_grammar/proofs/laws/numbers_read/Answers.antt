@@ -1,5 +1,5 @@
 use Rattle.std.proofs.Common.{false}
-use Rattle.lb_model_grammar.proofs.NumberReading.{number-faults, number-goes_on, number-missing, number-one, number-read, number-too_large}
+use Rattle.lb_model_grammar.proofs.NumberReading.{each-number, number-faults, number-goes_on, number-missing, number-one, number-read, number-too_large}
 use Rattle.lb_model_grammar.proofs.laws.numbers_read.Goals as goal
 
 pub returns-clause-read : goal.returns-clause-read
@@ -19,3 +19,6 @@ returns-clause-no_other_fault c = number-faults
 
 pub returns-clause-one_worth : goal.returns-clause-one_worth
 returns-clause-one_worth c = number-one false
+
+pub returns-clause-each : goal.returns-clause-each
+returns-clause-each c = each-number
