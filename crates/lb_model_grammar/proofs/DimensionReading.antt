@@ -18,7 +18,7 @@ use Rattle.lb_model_grammar.specs.declared.given.Want.{Want}
 use Rattle.lb_model_grammar.specs.declared.given.Want.TheVariants as want
 use Rattle.lb_model_grammar.specs.Dimensions.{Unit_of, Uses, dimension, dimension_alone, units, fraction, in_unit, is_negative, times, xor}
 use Rattle.lb_model_grammar.specs.Dimensions.Unit_of.{Infinite, OfFont, Physical, Scaled}
-use Rattle.lb_model_grammar.specs.LengthGrammar.{IsDimension, dimen_alone, found_alone, BehindWhole, FontSize, Fraction, InUnit, IsLength, Multiple, OneOf, Sized, Spaced, UnitOf}
+use Rattle.lb_model_grammar.specs.LengthGrammar.{BehindWhole, ByDecimal, ByQuantity, BySize, FontSize, Fraction, Grammar, InUnit, IsDimension, IsLength, Multiple, OneOf, Sized, Spaced, UnitOf, dimen_alone, found_alone}
 use Rattle.lb_model_grammar.specs.LengthGrammar.Alone.{by_itself}
 use Rattle.lb_model_grammar.specs.LengthGrammar.BehindWhole.{large as whole_large, small as whole_small}
 use Rattle.lb_model_grammar.specs.LengthGrammar.FontSize.{size}
@@ -47,7 +47,7 @@ use Rattle.lb_model_grammar.proofs.UnitReading.{Each, table-not-empty, table-rea
 use Rattle.lb_model_grammar.proofs.UnitReading.Each.{next, no_more}
 use Rattle.lb_model_grammar.proofs.ReadingSteps.{Has}
 
-pub units-each : (u : Uses) (found : Order → ℤ → List Given → Worth Scanned → Type 0) → ((order : Order) (v : ℤ) → Has (found order v))
+pub units-each : (u : Uses) (found : BySize) → ((order : Order) (v : ℤ) → Has (found order v))
     → ((order : Order) (v : ℤ) (given : List Given) → Reads (found order v) given (u.found order v given))
     → (n : Bool) (whole fraction : ℕ) → Each (Lacks u) (InUnit found n whole fraction) (in_unit u n whole fraction) units
 units-each u found h r n whole fraction =
@@ -70,7 +70,7 @@ units-each u found h r n whole fraction =
           next k.some k.worth k.is (λ rest. reads (spaced-size u found h r n Finite (a * (65536 * whole + fraction) / b) rest)) each
 
 -- a unit that begins with p
-pub point-rest : (found : Order → ℤ → List Given → Worth Scanned → Type 0) → ((order : Order) (v : ℤ) → Has (found order v)) → (n : Bool) (whole fraction : ℕ)
+pub point-rest : (found : BySize) → ((order : Order) (v : ℤ) → Has (found order v)) → (n : Bool) (whole fraction : ℕ)
     → Has (λ all w. OneOf (InUnit found n whole fraction) units (AToken (Char category.Letter 112) ∷ all) w)
 point-rest found h n whole fraction =
     let size : ℕ = 1 * (65536 * whole + fraction) / 1 in
@@ -137,24 +137,24 @@ dimension-wrong given kind e = by (dimension-reads given) where
 
 -- ---- What dimensions are worth
 
-pub spaced-all : (P : Worth Scanned → Type 0) (K : List Given → Worth Scanned → Type 0) → ((all : List Given) (w : Worth Scanned) → K all w → P w)
+pub spaced-all : (P : Worth Scanned → Type 0) (K : Grammar) → ((all : List Given) (w : Worth Scanned) → K all w → P w)
     → (all : List Given) (w : Worth Scanned) → Spaced K all w → P w
 spaced-all P K k all w (bare b r) = k all w r
 spaced-all P K k _ w (space {given = all} h r) = k all w r
 
-pub sized-all : (P : Worth Scanned → Type 0) → P (TooLarge DimenTooLarge) → (found : Order → ℤ → List Given → Worth Scanned → Type 0)
+pub sized-all : (P : Worth Scanned → Type 0) → P (TooLarge DimenTooLarge) → (found : BySize)
     → ((order : Order) (v : ℤ) (all : List Given) (w : Worth Scanned) → found order v all w → P w)
     → (n : Bool) (order : Order) (x : ℕ) (all : List Given) (w : Worth Scanned) → Sized found n order x all w → P w
 sized-all P p found f n order x all w (small h r) = f order (signed n (pos x)) all w r
 sized-all P p found f n order x _ _ (large h) = p
 
-font-all : (P : Worth Scanned → Type 0) → P (TooLarge DimenTooLarge) → (found : Order → ℤ → List Given → Worth Scanned → Type 0)
+font-all : (P : Worth Scanned → Type 0) → P (TooLarge DimenTooLarge) → (found : BySize)
     → ((order : Order) (v : ℤ) (all : List Given) (w : Worth Scanned) → found order v all w → P w)
     → (n : Bool) (whole fraction : ℕ) (all : List Given) (w : Worth Scanned) → FontSize found n whole fraction all w → P w
 font-all P p found f n whole fraction _ w (size {v = v} {given = all} r) =
     spaced-all P (Multiple found n whole fraction v) (sized-all P p found f (xor n (is_negative v)) Finite (times whole fraction (nat_abs v))) all w r
 
-pub in-unit-all : (P : Worth Scanned → Type 0) → P (TooLarge DimenTooLarge) → (found : Order → ℤ → List Given → Worth Scanned → Type 0)
+pub in-unit-all : (P : Worth Scanned → Type 0) → P (TooLarge DimenTooLarge) → (found : BySize)
     → ((order : Order) (v : ℤ) (all : List Given) (w : Worth Scanned) → found order v all w → P w)
     → (n : Bool) (whole fraction : ℕ) (u : Unit_of) (all : List Given) (w : Worth Scanned) → InUnit found n whole fraction u all w → P w
 in-unit-all P p found f n whole fraction (Physical a b) all w r = spaced-all P _ (sized-all P p found f n Finite (a * (65536 * whole + fraction) / b)) all w r
@@ -162,7 +162,7 @@ in-unit-all P p found f n whole fraction Scaled all w r = spaced-all P _ (sized-
 in-unit-all P p found f n whole fraction (OfFont asked) all w r = font-all P p found f n whole fraction all w r
 in-unit-all P p found f n whole fraction (Infinite order) all w r = spaced-all P _ (sized-all P p found f n order (65536 * whole + fraction)) all w r
 
-pub letters-all : (P : Worth Scanned → Type 0) (K : List Given → Worth Scanned → Type 0) → ((all : List Given) (w : Worth Scanned) → K all w → P w)
+pub letters-all : (P : Worth Scanned → Type 0) (K : Grammar) → ((all : List Given) (w : Worth Scanned) → K all w → P w)
     → (word : List ℕ) (all : List Given) (w : Worth Scanned) → Letters K word all w → P w
 letters-all P K k _ all w (ended r) = k all w r
 letters-all P K k _ _ w (letter {word = word} {given = all} h r) = letters-all P K k word all w r
@@ -172,7 +172,7 @@ pub one-of-all : (P : Worth Scanned → Type 0) (K : Unit_of → List Given → 
 one-of-all P K k _ all w (here {u = u} r) = letters-all P (K u.1) (k u.1) u.0 all w r
 one-of-all P K k _ all w (there {table = table} r) = one-of-all P K k table all w r
 
-unit-all : (P : Worth Scanned → Type 0) → P (TooLarge DimenTooLarge) → (table : Bool → ℕ → ℕ → List Given → Worth Scanned → Type 0) (found : Order → ℤ → List Given → Worth Scanned → Type 0)
+unit-all : (P : Worth Scanned → Type 0) → P (TooLarge DimenTooLarge) → (table : ByDecimal) (found : BySize)
     → ((order : Order) (v : ℤ) (all : List Given) (w : Worth Scanned) → found order v all w → P w)
     → ((n : Bool) (whole fraction : ℕ) (all : List Given) (w : Worth Scanned) → table n whole fraction all w → P w)
     → (n : Bool) (whole fraction : ℕ) (all : List Given) (w : Worth Scanned) → UnitOf table found n whole fraction all w → P w
@@ -182,14 +182,14 @@ unit-all P p table found f k n whole fraction _ w (unit_internal h (dimen {v = v
 unit-all P p table found f k n whole fraction _ w (unit_letters {t = t} {given = all} h r) =
     k n whole fraction (AToken t ∷ all) w r
 
-fraction-all : (P : Worth Scanned → Type 0) → P (TooLarge DimenTooLarge) → (table : Bool → ℕ → ℕ → List Given → Worth Scanned → Type 0) (found : Order → ℤ → List Given → Worth Scanned → Type 0)
+fraction-all : (P : Worth Scanned → Type 0) → P (TooLarge DimenTooLarge) → (table : ByDecimal) (found : BySize)
     → ((order : Order) (v : ℤ) (all : List Given) (w : Worth Scanned) → found order v all w → P w)
     → ((n : Bool) (whole fraction : ℕ) (all : List Given) (w : Worth Scanned) → table n whole fraction all w → P w)
     → (n : Bool) (whole : ℕ) (ds : List ℕ) (all : List Given) (w : Worth Scanned) → Fraction table found n whole ds all w → P w
 fraction-all P p table found f k n whole ds _ w (fraction_digit {d = d} {given = all} h r) = fraction-all P p table found f k n whole (ds ++ d ∷ []) all w r
 fraction-all P p table found f k n whole ds all w (fraction_unit h r) = unit-all P p table found f k n whole (fraction_from_digits (take 17 ds)) all w r
 
-whole-all : (P : Worth Scanned → Type 0) → P (TooLarge DimenTooLarge) → P (TooLarge NumberTooBig) → (table : Bool → ℕ → ℕ → List Given → Worth Scanned → Type 0) (found : Order → ℤ → List Given → Worth Scanned → Type 0)
+whole-all : (P : Worth Scanned → Type 0) → P (TooLarge DimenTooLarge) → P (TooLarge NumberTooBig) → (table : ByDecimal) (found : BySize)
     → ((order : Order) (v : ℤ) (all : List Given) (w : Worth Scanned) → found order v all w → P w)
     → ((n : Bool) (whole fraction : ℕ) (all : List Given) (w : Worth Scanned) → table n whole fraction all w → P w)
     → (n : Bool) (whole : ℕ) (all : List Given) (w : Worth Scanned) → BehindWhole table found n whole all w → P w
@@ -203,8 +203,8 @@ digits-all P K k v all w (last r) = k v all w r
 digits-all P K k v _ w (digit {d = d} {given = all} h r) = digits-all P K k (10 * v + d) all w r
 
 -- what holds of all that stands behind a dimension, and of what is too large, holds of it
-pub length-all : (P : Worth Scanned → Type 0) → P (TooLarge DimenTooLarge) → P (TooLarge NumberTooBig) → (table : Bool → ℕ → ℕ → List Given → Worth Scanned → Type 0)
-    → (found : Order → ℤ → List Given → Worth Scanned → Type 0) (alone : Bool → Quantity → List Given → Worth Scanned → Type 0)
+pub length-all : (P : Worth Scanned → Type 0) → P (TooLarge DimenTooLarge) → P (TooLarge NumberTooBig) → (table : ByDecimal)
+    → (found : BySize) (alone : ByQuantity)
     → ((order : Order) (v : ℤ) (all : List Given) (w : Worth Scanned) → found order v all w → P w)
     → ((n : Bool) (whole fraction : ℕ) (all : List Given) (w : Worth Scanned) → table n whole fraction all w → P w)
     → ((n : Bool) (q : Quantity) (all : List Given) (w : Worth Scanned) → alone n q all w → P w)

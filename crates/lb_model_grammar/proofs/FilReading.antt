@@ -16,7 +16,7 @@ use Rattle.lb_model_grammar.specs.Dimensions.Unit_of.{Infinite}
 use Rattle.lb_model_grammar.specs.GlueGrammar.{Fils, GlueUnit}
 use Rattle.lb_model_grammar.specs.GlueGrammar.Fils.{fil, fill, filll, second, third}
 use Rattle.lb_model_grammar.specs.GlueGrammar.GlueUnit.{finite, infinite}
-use Rattle.lb_model_grammar.specs.LengthGrammar.{InUnit, OneOf, Sized}
+use Rattle.lb_model_grammar.specs.LengthGrammar.{BySize, InUnit, OneOf, Sized}
 use Rattle.lb_model_grammar.specs.LengthGrammar.Spaced.{space as a_space}
 use Rattle.lb_model_grammar.specs.Scans.{Meant, is_letter, letters, one_of, space_before}
 use Rattle.lb_model_grammar.specs.Scans.Meant.{Open}
@@ -129,7 +129,7 @@ abbrev fils : (Order → List Given → Meant Scanned) → Meant Scanned → Lis
 fils read other given =
     letters (codes "filll") (read Filll) (letters (codes "fill") (read Fill) (letters (codes "fil") (read Fil) other given) given) given
 
-fils-at : (F : Meant Scanned → Type 0) (found : Order → ℤ → List Given → Worth Scanned → Type 0) (n : Bool) (whole fraction : ℕ) (read : Order → List Given → Meant Scanned)
+fils-at : (F : Meant Scanned → Type 0) (found : BySize) (n : Bool) (whole fraction : ℕ) (read : Order → List Given → Meant Scanned)
     → ((order : Order) → Has (λ all w. InUnit found n whole fraction (Infinite order) (AToken (Char category.Space 32) ∷ all) w))
     → ((order : Order) (given : List Given) → Reads (InUnit found n whole fraction (Infinite order)) given (read order given))
     → (other : Meant Scanned) (given : List Given) → ReadsOr F (OneOf (InUnit found n whole fraction) units) given other
@@ -178,7 +178,7 @@ fils-at F found n whole fraction read h r other given o (differs d s) =
         ∙ differs-letters (read Fill) (letters (codes "fil") (read Fil) other given) (codes "l") (codes "fil") given d
         ∙ differs-letters (read Fil) other [] (codes "fil") given d
 
-pub glue-units-read : (u : Uses) (found : Order → ℤ → List Given → Worth Scanned → Type 0) → ((order : Order) (v : ℤ) → Has (found order v))
+pub glue-units-read : (u : Uses) (found : BySize) → ((order : Order) (v : ℤ) → Has (found order v))
     → ((order : Order) (v : ℤ) (given : List Given) → Reads (found order v) given (u.found order v given))
     → (n : Bool) (whole fraction : ℕ) (given : List Given)
     → ReadsOr (Lacks u) (GlueUnit found n whole fraction) given (one_of glue_units (in_unit u n whole fraction) (u.missing UnitMissing) given)
@@ -191,6 +191,6 @@ glue-units-read u found h r n whole fraction given =
     (table-reads (Lacks u) (InUnit found n whole fraction) (in_unit u n whole fraction) (u.missing UnitMissing) (inr refl) units refl (units-each u found h r n whole fraction) given)
     (fate (codes "fil") given)
 
-pub glue-unit-filled : (found : Order → ℤ → List Given → Worth Scanned → Type 0) (n : Bool) (whole fraction : ℕ) (w : Worth Scanned) → GlueUnit found n whole fraction [] w → ⊥
+pub glue-unit-filled : (found : BySize) (n : Bool) (whole fraction : ℕ) (w : Worth Scanned) → GlueUnit found n whole fraction [] w → ⊥
 glue-unit-filled found n whole fraction w (infinite l) = elim l [ ]
 glue-unit-filled found n whole fraction w (finite o) = table-not-empty (InUnit found n whole fraction) units w refl o

@@ -22,7 +22,7 @@ use Rattle.lb_model_grammar.specs.GlueGrammar.GlueUnit.{finite, infinite}
 use Rattle.lb_model_grammar.specs.GlueGrammar.Shrink.{minus, nothing as no_shrink}
 use Rattle.lb_model_grammar.specs.GlueGrammar.Stretch.{nothing as no_stretch, plus}
 use Rattle.lb_model_grammar.specs.Dimensions.Unit_of.{Infinite}
-use Rattle.lb_model_grammar.specs.LengthGrammar.{InUnit, IsLength, OneOf}
+use Rattle.lb_model_grammar.specs.LengthGrammar.{BySize, Grammar, InUnit, IsLength, OneOf}
 use Rattle.lb_model_grammar.specs.Scans.{Meant, signed}
 use Rattle.lb_model_grammar.specs.Scans.Meant.{Open, Ended, Wrong}
 use Rattle.lb_model_grammar.specs.WordGrammar.{Keyword, Nothing}
@@ -45,7 +45,7 @@ use Rattle.lb_model_grammar.proofs.WordReading.{spelled}
 -- ---- A part, or nothing
 
 -- where the one grammar has besides what the other has only the empty list, which is read where the other has nothing
-or-nothing : (G H : List Given → Worth Scanned → Type 0) (x : Scanned) (given : List Given) (m : Meant Scanned) → ReadsOr (λ m. m ≡ Ended x given) H given m
+or-nothing : (G H : Grammar) (x : Scanned) (given : List Given) (m : Meant Scanned) → ReadsOr (λ m. m ≡ Ended x given) H given m
     → ((all : List Given) (w : Worth Scanned) → H all w → G all w)
     → ((more all behind : List Given) (w : Worth Scanned) → given ++ more ≡ all ++ behind → G all w → (length all ≤ 0) ⊎ H all w)
     → G [] (Value x) → Reads G given m
@@ -73,7 +73,7 @@ or-nothing G H x given m (none f n) into onto empty = subst (λ (k : Meant Scann
     by (inr h) = absurd (n more all behind w e h)
 
 -- both kinds of lack are one
-lack : (u : Uses) (x : Scanned) (given : List Given) (G : List Given → Worth Scanned → Type 0) (some : List Given) (m : Meant Scanned)
+lack : (u : Uses) (x : Scanned) (given : List Given) (G : Grammar) (some : List Given) (m : Meant Scanned)
     → u.missing NumberMissing ≡ Ended x given → u.missing UnitMissing ≡ Ended x given → ReadsOr (Lacks u) G some m → ReadsOr (λ m. m ≡ Ended x given) G some m
 lack u x given G some m a b (reads r) = reads r
 lack u x given G some m a b (none (inl f) n) = none (f ∙ a) n
@@ -252,7 +252,7 @@ glue-wrong given kind e = by (glue-reads given) where
 
 -- ---- What glue is worth
 
-keyword-all : (P : Worth Scanned → Type 0) (K : List Given → Worth Scanned → Type 0) → ((all : List Given) (w : Worth Scanned) → K all w → P w)
+keyword-all : (P : Worth Scanned → Type 0) (K : Grammar) → ((all : List Given) (w : Worth Scanned) → K all w → P w)
     → (word : List ℕ) (all : List Given) (w : Worth Scanned) → Keyword K word all w → P w
 keyword-all P K k word _ w (key_blank {given = all} h r) = keyword-all P K k word all w r
 keyword-all P K k word all w (key_letters b l) = letters-all P K k word all w l
@@ -265,7 +265,7 @@ fils-all P K k _ all w (filll r) = k Filll all w r
 fils-all P K k _ _ w (second {given = all} h r) = fils-all P K k Fill all w r
 fils-all P K k _ _ w (third {given = all} h r) = fils-all P K k Filll all w r
 
-glue-unit-fine : (found : Order → ℤ → List Given → Worth Scanned → Type 0) → ((order : Order) (v : ℤ) (all : List Given) (w : Worth Scanned) → found order v all w → IsFine w)
+glue-unit-fine : (found : BySize) → ((order : Order) (v : ℤ) (all : List Given) (w : Worth Scanned) → found order v all w → IsFine w)
     → (n : Bool) (whole fraction : ℕ) (all : List Given) (w : Worth Scanned) → GlueUnit found n whole fraction all w → IsFine w
 glue-unit-fine found f n whole fraction all w (infinite l) =
     letters-all IsFine (Fils (λ order. InUnit found n whole fraction (Infinite order)) Fil)

@@ -4,6 +4,7 @@ use Rattle.std.specs.Prelude.{if◌then◌else◌}
 use Rattle.lb_base.specs.declared.token.Category.TheVariants as category
 use Rattle.lb_base.specs.declared.token.Tok.{Tok}
 use Rattle.lb_base.specs.declared.token.Tok.TheVariants.{Char}
+use Rattle.lb_model_grammar.specs.LengthGrammar.{Grammar}
 use Rattle.lb_model_grammar.specs.declared.given.Given.{Given}
 use Rattle.lb_model_grammar.specs.declared.given.Given.TheVariants.{Tok as AToken, Quantity as AQuantity, End}
 use Rattle.lb_model_grammar.specs.declared.given.Scanned.{Scanned}
@@ -75,24 +76,24 @@ still-no-blank (AToken t ∷ given) more c e = e
 still-no-blank (AQuantity q ∷ given) more c e = refl
 still-no-blank (End ∷ given) more c e = refl
 
-pub word-goes-on : (K : List Given → Worth Scanned → Type 0) (some : List Given) (worth : Worth Scanned) → K some worth → (word : List ℕ) (given : List Given) (c : ℕ) (left : List ℕ)
+pub word-goes-on : (K : Grammar) (some : List Given) (worth : Worth Scanned) → K some worth → (word : List ℕ) (given : List Given) (c : ℕ) (left : List ℕ)
     → WordLeft word given (c ∷ left) → Keyword K word (given ++ AToken (Char category.Letter c) ∷ spelled left some) worth
 word-goes-on K some worth k word _ c left (left_blank {given = given} e l) = blank e (word-goes-on K some worth k word given c left l)
 word-goes-on K some worth k word given c left (left_here e l) =
     the_letters (still-no-blank given (spelled left some) c e) (goes-on K some worth k word given c left l)
 
-front-token : (F : Meant Scanned → Type 0) (K : List Given → Worth Scanned → Type 0) (m : Meant Scanned) (c : ℕ) (word : List ℕ) (given rest : List Given)
+front-token : (F : Meant Scanned → Type 0) (K : Grammar) (m : Meant Scanned) (c : ℕ) (word : List ℕ) (given rest : List Given)
     → begins_blank given ≡ false → Front (c ∷ word) given rest → ReadsOr F (Letters K (c ∷ word)) given m → ReadsOr F (Keyword K (c ∷ word)) given m
 front-token F K m c word _ rest e (front_also {t = t} {given = given} h l) r = reads-or-as (no-blank K (c ∷ word) t e) (no-keyword K c word) given m r
 
-pub word-front-reads : (F : Meant Scanned → Type 0) (K : List Given → Worth Scanned → Type 0) (m : Meant Scanned) (c : ℕ) (word : List ℕ) (given rest : List Given)
+pub word-front-reads : (F : Meant Scanned → Type 0) (K : Grammar) (m : Meant Scanned) (c : ℕ) (word : List ℕ) (given rest : List Given)
     → WordFront (c ∷ word) given rest → ReadsOr F K rest m → ReadsOr F (Keyword K (c ∷ word)) given m
 word-front-reads F K m c word _ rest (front_blank {t = t} {given = given} e l) r =
     reads-or-behind (behind-blank K (c ∷ word) t e) (no-keyword K c word) given m (word-front-reads F K m c word given rest l r)
 word-front-reads F K m c word given rest (front_here e l) r = front-token F K m c word given rest e l (front-reads F K m (c ∷ word) given rest l r)
 
 -- what begins with the one word does not begin with another
-pub word-not-other : (K : List Given → Worth Scanned → Type 0) (c : ℕ) (word other : List ℕ) (given rest all more behind : List Given) (w : Worth Scanned) → apart (c ∷ word) other ≡ true
+pub word-not-other : (K : Grammar) (c : ℕ) (word other : List ℕ) (given rest all more behind : List Given) (w : Worth Scanned) → apart (c ∷ word) other ≡ true
     → WordFront (c ∷ word) given rest → Keyword K other all w → given ++ more ≡ all ++ behind → ⊥
 word-not-other K c word other _ rest _ more behind w a (front_blank {t = t} {given = given} e l) (blank {t = s} {given = all} h r) q =
     let tail : given ++ more ≡ all ++ behind = cc in
@@ -118,7 +119,7 @@ word-not-other K c word other given rest all more behind w a (front_here b l) (t
     front-differs (c ∷ word) given rest all more behind l (apart-differs K (c ∷ word) other all w a r) q
 
 -- what begins with another thing does not begin with the word
-pub word-not-there : (K : List Given → Worth Scanned → Type 0) (c : ℕ) (word : List ℕ) (given all more behind : List Given) (w : Worth Scanned) → WordDiffers (c ∷ word) given
+pub word-not-there : (K : Grammar) (c : ℕ) (word : List ℕ) (given all more behind : List Given) (w : Worth Scanned) → WordDiffers (c ∷ word) given
     → Keyword K (c ∷ word) all w → given ++ more ≡ all ++ behind → ⊥
 word-not-there K c word _ _ more behind w (differs_blank {t = t} {given = given} e d) (blank {t = s} {given = all} h r) q =
     let tail : given ++ more ≡ all ++ behind = cc in

@@ -14,7 +14,7 @@ use Rattle.lb_model_grammar.specs.declared.given.Quantity.TheVariants as quantit
 use Rattle.lb_model_grammar.specs.declared.given.Scanned.{Scanned}
 use Rattle.lb_model_grammar.specs.declared.given.Want.{Want}
 use Rattle.lb_model_grammar.specs.Dimensions.{Uses, font_unit, fraction, in_unit, internal_unit, is_negative, sized, times, xor}
-use Rattle.lb_model_grammar.specs.LengthGrammar.{FontSize, InternalUnit, Multiple, Sized, Spaced}
+use Rattle.lb_model_grammar.specs.LengthGrammar.{ByDecimal, ByQuantity, BySize, FontSize, Grammar, InternalUnit, Multiple, Sized, Spaced}
 use Rattle.lb_model_grammar.specs.LengthGrammar.FontSize.{size}
 use Rattle.lb_model_grammar.specs.LengthGrammar.InternalUnit.{dimen}
 use Rattle.lb_model_grammar.specs.LengthGrammar.Sized.{large, small}
@@ -32,7 +32,7 @@ abbrev pub Lacks : Uses → Meant Scanned → Type 0
 Lacks u m = (m ≡ u.missing NumberMissing) ⊎ (m ≡ u.missing UnitMissing)
 
 -- what stands behind a dimension is read
-pub record Behind (u : Uses) (table : Bool → ℕ → ℕ → List Given → Worth Scanned → Type 0) (found : Order → ℤ → List Given → Worth Scanned → Type 0) (alone : Bool → Quantity → List Given → Worth Scanned → Type 0) : Type 0 where
+pub record Behind (u : Uses) (table : ByDecimal) (found : BySize) (alone : ByQuantity) : Type 0 where
   pub found_reads : (order : Order) (v : ℤ) (given : List Given) → Reads (found order v) given (u.found order v given)
   pub found_has : (order : Order) (v : ℤ) → Has (found order v)
   pub alone_reads : (n : Bool) (q : Quantity) (given : List Given) → ReadsOr (Lacks u) (alone n q) given (u.alone n q given)
@@ -45,27 +45,27 @@ pub record Behind (u : Uses) (table : Bool → ℕ → ℕ → List Given → Wo
 
 -- ---- One space
 
-pub spaced-has : (K : List Given → Worth Scanned → Type 0) → Has K → Has (Spaced K)
+pub spaced-has : (K : Grammar) → Has K → Has (Spaced K)
 spaced-has K h = record { some = AToken (Char category.Space 32) ∷ h.some; worth = h.worth; is = space refl h.is }
 
-pub behind-space : (K : List Given → Worth Scanned → Type 0) (t : Tok) → is_space t ≡ true → Step (Spaced K) K (AToken t)
+pub behind-space : (K : Grammar) (t : Tok) → is_space t ≡ true → Step (Spaced K) K (AToken t)
 behind-space K t e = record { into = λ all w k. space e k; onto = onto } where
   onto : (all : List Given) (w : Worth Scanned) → Spaced K (AToken t ∷ all) w → K all w
   onto all w (bare b k) = cc
   onto all w (space h k) = k
 
-no-space : (K : List Given → Worth Scanned → Type 0) (t : Tok) → is_space t ≡ false → Same (Spaced K) K (AToken t)
+no-space : (K : Grammar) (t : Tok) → is_space t ≡ false → Same (Spaced K) K (AToken t)
 no-space K t e = record { empty = λ w k. bare refl k; into = λ all w k. bare e k; onto = onto } where
   onto : (all : List Given) (w : Worth Scanned) → Spaced K (AToken t ∷ all) w → K (AToken t ∷ all) w
   onto all w (bare b k) = k
   onto all w (space h k) = cc
 
-spaced-at : (K : List Given → Worth Scanned → Type 0) (done : List Given → Meant Scanned) → ((given : List Given) → Reads K given (done given))
+spaced-at : (K : Grammar) (done : List Given → Meant Scanned) → ((given : List Given) → Reads K given (done given))
     → (t : Tok) (given : List Given) (b : Bool) → is_space t ≡ b → Reads (Spaced K) (AToken t ∷ given) (if b then done given else done (AToken t ∷ given))
 spaced-at K done r t given true e = reads-behind (behind-space K t e) given (done given) (r given)
 spaced-at K done r t given false e = reads-as (no-space K t e) given (done (AToken t ∷ given)) (r (AToken t ∷ given))
 
-pub spaced-reads : (K : List Given → Worth Scanned → Type 0) (done : List Given → Meant Scanned) → Has K → ((given : List Given) → Reads K given (done given))
+pub spaced-reads : (K : Grammar) (done : List Given → Meant Scanned) → Has K → ((given : List Given) → Reads K given (done given))
     → (given : List Given) → Reads (Spaced K) given (space_before done given)
 spaced-reads K done h r [] =
     record { next = AToken (Char category.Space 32); answers = expanded; more = h.some; worth = h.worth; is = space refl h.is }
@@ -77,19 +77,19 @@ spaced-reads K done h r (End ∷ given) =
 
 -- ---- Sizes
 
-pub sized-equal : (found : Order → ℤ → List Given → Worth Scanned → Type 0) (n : Bool) (order : Order) (x : ℕ) → nat_lt x 1073741824 ≡ true
+pub sized-equal : (found : BySize) (n : Bool) (order : Order) (x : ℕ) → nat_lt x 1073741824 ≡ true
     → Equal (Sized found n order x) (found order (signed n (pos x)))
 sized-equal found n order x e = record { into = λ all w k. small e k; onto = onto } where
   onto : (all : List Given) (w : Worth Scanned) → Sized found n order x all w → found order (signed n (pos x)) all w
   onto all w (small h k) = k
   onto all w (large h) = cc
 
-sized-short : (found : Order → ℤ → List Given → Worth Scanned → Type 0) (n : Bool) (order : Order) (x : ℕ) → nat_lt x 1073741824 ≡ false
+sized-short : (found : BySize) (n : Bool) (order : Order) (x : ℕ) → nat_lt x 1073741824 ≡ false
     → (all : List Given) (w : Worth Scanned) → Sized found n order x all w → length all ≤ 0
 sized-short found n order x e all w (small h k) = cc
 sized-short found n order x e _ w (large h) = omega arith
 
-sized-at : (u : Uses) (found : Order → ℤ → List Given → Worth Scanned → Type 0)
+sized-at : (u : Uses) (found : BySize)
     → ((order : Order) (v : ℤ) (given : List Given) → Reads (found order v) given (u.found order v given))
     → (n : Bool) (order : Order) (x : ℕ) (given : List Given) (b : Bool) → nat_lt x 1073741824 ≡ b
     → Reads (Sized found n order x) given (if b then u.found order (signed n (pos x)) given else Wrong DimenTooLarge)
@@ -100,42 +100,42 @@ sized-at u found r n order x given false e = record {
   is = record { read = []; parts = refl; is = large e; longest = λ more all behind w q i. sized-short found n order x e all w i };
 }
 
-pub sized-reads : (u : Uses) (found : Order → ℤ → List Given → Worth Scanned → Type 0)
+pub sized-reads : (u : Uses) (found : BySize)
     → ((order : Order) (v : ℤ) (given : List Given) → Reads (found order v) given (u.found order v given))
     → (n : Bool) (order : Order) (x : ℕ) (given : List Given) → Reads (Sized found n order x) given (sized u n order x given)
 sized-reads u found r n order x given = sized-at u found r n order x given (nat_lt x 1073741824) refl
 
-sized-has-at : (found : Order → ℤ → List Given → Worth Scanned → Type 0) → ((order : Order) (v : ℤ) → Has (found order v)) → (n : Bool) (order : Order) (x : ℕ)
+sized-has-at : (found : BySize) → ((order : Order) (v : ℤ) → Has (found order v)) → (n : Bool) (order : Order) (x : ℕ)
     → (b : Bool) → nat_lt x 1073741824 ≡ b → Has (Sized found n order x)
 sized-has-at found h n order x true e =
     let k : Has (found order (signed n (pos x))) = h order (signed n (pos x)) in
     record { some = k.some; worth = k.worth; is = small e k.is }
 sized-has-at found h n order x false e = record { some = []; worth = TooLarge DimenTooLarge; is = large e }
 
-pub sized-has : (found : Order → ℤ → List Given → Worth Scanned → Type 0) → ((order : Order) (v : ℤ) → Has (found order v)) → (n : Bool) (order : Order) (x : ℕ)
+pub sized-has : (found : BySize) → ((order : Order) (v : ℤ) → Has (found order v)) → (n : Bool) (order : Order) (x : ℕ)
     → Has (Sized found n order x)
 sized-has found h n order x = sized-has-at found h n order x (nat_lt x 1073741824) refl
 
-pub spaced-size : (u : Uses) (found : Order → ℤ → List Given → Worth Scanned → Type 0) → ((order : Order) (v : ℤ) → Has (found order v))
+pub spaced-size : (u : Uses) (found : BySize) → ((order : Order) (v : ℤ) → Has (found order v))
     → ((order : Order) (v : ℤ) (given : List Given) → Reads (found order v) given (u.found order v given))
     → (n : Bool) (order : Order) (x : ℕ) (given : List Given) → Reads (Spaced (Sized found n order x)) given (space_before (sized u n order x) given)
 spaced-size u found h r n order x given = spaced-reads (Sized found n order x) (sized u n order x) (sized-has found h n order x) (sized-reads u found r n order x) given
 
 -- ---- Units of the font
 
-pub behind-size : (found : Order → ℤ → List Given → Worth Scanned → Type 0) (n : Bool) (whole fraction : ℕ) (v : ℤ)
+pub behind-size : (found : BySize) (n : Bool) (whole fraction : ℕ) (v : ℤ)
     → Step (FontSize found n whole fraction) (Spaced (Multiple found n whole fraction v)) (AQuantity (quantity.Dimen v))
 behind-size found n whole fraction v = record { into = λ all w k. size k; onto = λ all w s. elim s [ size k ↦ k ] }
 
-font-not-empty : (found : Order → ℤ → List Given → Worth Scanned → Type 0) (n : Bool) (whole fraction : ℕ) (w : Worth Scanned) → FontSize found n whole fraction [] w → ⊥
+font-not-empty : (found : BySize) (n : Bool) (whole fraction : ℕ) (w : Worth Scanned) → FontSize found n whole fraction [] w → ⊥
 font-not-empty found n whole fraction w s = elim s [ ]
 
-no-size : (u : Uses) (found : Order → ℤ → List Given → Worth Scanned → Type 0) (n : Bool) (whole fraction : ℕ) (g : Given)
+no-size : (u : Uses) (found : BySize) (n : Bool) (whole fraction : ℕ) (g : Given)
     → ((all : List Given) (w : Worth Scanned) → FontSize found n whole fraction (g ∷ all) w → ⊥) → (given : List Given)
     → ReadsOr (Lacks u) (FontSize found n whole fraction) (g ∷ given) (u.missing UnitMissing)
 no-size u found n whole fraction g at given = none (inr refl) (nothing-begins (FontSize found n whole fraction) g given (font-not-empty found n whole fraction) at)
 
-pub font-reads : (u : Uses) (found : Order → ℤ → List Given → Worth Scanned → Type 0) → ((order : Order) (v : ℤ) → Has (found order v))
+pub font-reads : (u : Uses) (found : BySize) → ((order : Order) (v : ℤ) → Has (found order v))
     → ((order : Order) (v : ℤ) (given : List Given) → Reads (found order v) given (u.found order v given))
     → (asked : Want) → Answers asked (AQuantity (quantity.Dimen (pos 0))) → (n : Bool) (whole fraction : ℕ) (given : List Given)
     → ReadsOr (Lacks u) (FontSize found n whole fraction) given (font_unit u asked n whole fraction given)
@@ -152,16 +152,16 @@ font-reads u found h r asked a n whole fraction (End ∷ given) = no-size u foun
 
 -- ---- Internal units
 
-pub behind-dimen : (found : Order → ℤ → List Given → Worth Scanned → Type 0) (n : Bool) (whole fraction : ℕ) (v : ℤ)
+pub behind-dimen : (found : BySize) (n : Bool) (whole fraction : ℕ) (v : ℤ)
     → Step (InternalUnit found n whole fraction) (Multiple found n whole fraction v) (AQuantity (quantity.Dimen v))
 behind-dimen found n whole fraction v = record { into = λ all w k. dimen k; onto = λ all w s. elim s [ dimen k ↦ k ] }
 
-no-dimen : (u : Uses) (found : Order → ℤ → List Given → Worth Scanned → Type 0) (n : Bool) (whole fraction : ℕ) (g : Given)
+no-dimen : (u : Uses) (found : BySize) (n : Bool) (whole fraction : ℕ) (g : Given)
     → ((all : List Given) (w : Worth Scanned) → InternalUnit found n whole fraction (g ∷ all) w → ⊥) → (given : List Given)
     → ReadsOr (Lacks u) (InternalUnit found n whole fraction) (g ∷ given) (u.missing UnitMissing)
 no-dimen u found n whole fraction g at given = none (inr refl) (nothing-begins (InternalUnit found n whole fraction) g given (λ w s. elim s [ ]) at)
 
-pub internal-unit-reads : (u : Uses) (found : Order → ℤ → List Given → Worth Scanned → Type 0) → ((order : Order) (v : ℤ) → Has (found order v))
+pub internal-unit-reads : (u : Uses) (found : BySize) → ((order : Order) (v : ℤ) → Has (found order v))
     → ((order : Order) (v : ℤ) (given : List Given) → Reads (found order v) given (u.found order v given))
     → (n : Bool) (whole fraction : ℕ) (given : List Given)
     → ReadsOr (Lacks u) (InternalUnit found n whole fraction) given (internal_unit u n whole fraction given)

@@ -11,7 +11,7 @@ use Rattle.lb_model_grammar.specs.declared.given.Quantity.{Quantity as Quantitie
 use Rattle.lb_model_grammar.specs.declared.given.Scanned.{Scanned}
 use Rattle.lb_model_grammar.specs.declared.given.Want.TheVariants as want
 use Rattle.lb_model_grammar.specs.Dimensions.{Unit_of}
-use Rattle.lb_model_grammar.specs.LengthGrammar.{OneOf}
+use Rattle.lb_model_grammar.specs.LengthGrammar.{Grammar, OneOf}
 use Rattle.lb_model_grammar.specs.LengthGrammar.OneOf.{here, there}
 use Rattle.lb_model_grammar.specs.Scans.{Meant, is_letter, letters, lower, one_of}
 use Rattle.lb_model_grammar.specs.Scans.Meant.{Open}
@@ -64,12 +64,12 @@ fate (c ∷ word) (AToken t ∷ given) = fate-at c word t given (fate word given
 fate (c ∷ word) (AQuantity q ∷ given) = differs quantity (λ f m. refl)
 fate (c ∷ word) (End ∷ given) = differs end (λ f m. refl)
 
-pub goes-on : (K : List Given → Worth Scanned → Type 0) (some : List Given) (worth : Worth Scanned) → K some worth → (word : List ℕ) (given : List Given) (c : ℕ) (left : List ℕ)
+pub goes-on : (K : Grammar) (some : List Given) (worth : Worth Scanned) → K some worth → (word : List ℕ) (given : List Given) (c : ℕ) (left : List ℕ)
     → Left word given (c ∷ left) → Letters K word (given ++ AToken (Char category.Letter c) ∷ spelled left some) worth
 goes-on K some worth k _ _ c left all_left = letters-spelled K (c ∷ left) some worth k
 goes-on K some worth k _ _ c left (also {word = word} {given = given} e l) = letter e (goes-on K some worth k word given c left l)
 
-pub front-reads : (F : Meant Scanned → Type 0) (K : List Given → Worth Scanned → Type 0) (m : Meant Scanned) (word : List ℕ) (given rest : List Given)
+pub front-reads : (F : Meant Scanned → Type 0) (K : Grammar) (m : Meant Scanned) (word : List ℕ) (given rest : List Given)
     → Front word given rest → ReadsOr F K rest m → ReadsOr F (Letters K word) given m
 front-reads F K m _ given _ done r = reads-or-equal (none-left K) given m r
 front-reads F K m _ _ rest (also {c = c} {word = word} {t = t} {given = given} e l) r =
@@ -122,7 +122,7 @@ apart-at : (c d : ℕ) (word other : List ℕ) (t : Tok) (given : List Given) �
 apart-at c d word other t given h ih true q e = also (two-letters c d t true q h) (ih e)
 apart-at c d word other t given h ih false q e = token (two-letters c d t false q h)
 
-pub apart-differs : (K : List Given → Worth Scanned → Type 0) (word other : List ℕ) (given : List Given) (w : Worth Scanned) → apart word other ≡ true
+pub apart-differs : (K : Grammar) (word other : List ℕ) (given : List Given) (w : Worth Scanned) → apart word other ≡ true
     → Letters K other given w → Differs word given
 apart-differs K [] other given w e l = cc
 apart-differs K (c ∷ word) _ given w e (ended k) = cc
@@ -147,7 +147,7 @@ front-differs _ _ rest all more behind (also {word = word} {t = t} {given = give
     let tail : given ++ more ≡ one ++ behind = cc in
     front-differs word given rest one more behind l d tail
 
-pub letters-differs : (K : List Given → Worth Scanned → Type 0) (word : List ℕ) (given all more behind : List Given) (w : Worth Scanned) → Differs word given
+pub letters-differs : (K : Grammar) (word : List ℕ) (given all more behind : List Given) (w : Worth Scanned) → Differs word given
     → Letters K word all w → given ++ more ≡ all ++ behind → ⊥
 letters-differs K _ _ _ more behind w (token {t = s} {given = one} h) (letter {t = t} {given = given} e l) q = let same : AToken t ≡ AToken s = cc in cc
 letters-differs K _ _ _ more behind w quantity (letter e l) q = cc
@@ -204,7 +204,7 @@ abbrev pub all_letters : List (List ℕ × Unit_of) → Bool
 all_letters [] = true
 all_letters (u ∷ table) = has_letters u.0 && all_letters table
 
-word-not-empty : (K : List Given → Worth Scanned → Type 0) (word : List ℕ) (w : Worth Scanned) → has_letters word ≡ true → Letters K word [] w → ⊥
+word-not-empty : (K : Grammar) (word : List ℕ) (w : Worth Scanned) → has_letters word ≡ true → Letters K word [] w → ⊥
 word-not-empty K [] w e l = cc
 word-not-empty K (c ∷ word) w e l = elim l [ ]
 

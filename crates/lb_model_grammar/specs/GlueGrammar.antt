@@ -12,7 +12,7 @@ use Rattle.lb_model_grammar.specs.declared.given.Scanned.{Scanned}
 use Rattle.lb_model_grammar.specs.declared.given.Scanned.TheVariants.{Skip}
 use Rattle.lb_model_grammar.specs.Dimensions.{of_width, signed_glue, units}
 use Rattle.lb_model_grammar.specs.Dimensions.Unit_of.{Infinite}
-use Rattle.lb_model_grammar.specs.LengthGrammar.{InUnit, IsLength, OneOf}
+use Rattle.lb_model_grammar.specs.LengthGrammar.{BySize, InUnit, IsLength, OneOf}
 use Rattle.lb_model_grammar.specs.Scans.{is_letter, signed}
 use Rattle.lb_model_grammar.specs.WordGrammar.{Keyword, Letters, Nothing}
 use Rattle.lb_model_grammar.specs.Written.{Worth}
@@ -34,7 +34,7 @@ pub data Fils (behind : Order → List Given → Worth Scanned → Type 0) : Ord
   third : {t : Tok} {given : List Given} {w : Worth Scanned} → is_letter 108 t ≡ true → Fils behind Filll given w → Fils behind Fill (AToken t ∷ given) w
 
 -- an infinite unit, or one of a dimension
-pub data GlueUnit (found : Order → ℤ → List Given → Worth Scanned → Type 0) (negative : Bool) (whole fraction : ℕ) : List Given → Worth Scanned → Type 0 where
+pub data GlueUnit (found : BySize) (negative : Bool) (whole fraction : ℕ) : List Given → Worth Scanned → Type 0 where
   infinite : {given : List Given} {w : Worth Scanned} → Letters (Fils (λ order. InUnit found negative whole fraction (Infinite order)) Fil) (codes "fil") given w
       → GlueUnit found negative whole fraction given w
   finite : {given : List Given} {w : Worth Scanned} → OneOf (InUnit found negative whole fraction) units given w → GlueUnit found negative whole fraction given w
