@@ -32,10 +32,13 @@ same-tok a = (tok-same a a).1 refl
 -- ---- What a token is in an argument
 
 pub data Stands (long : Bool) (t : Tok) : Type 0 where
-  opening : brace_of long t ≡ Opening → opens t ≡ true → ((level : ℕ) → level_then t level ≡ Some (suc level)) → is_barred long t ≡ false → Stands long t
-  closing : brace_of long t ≡ Closing → closes t ≡ true → ((level : ℕ) → level_then t level ≡ one_less level) → is_barred long t ≡ false → Stands long t
+  opening : brace_of long t ≡ Opening → opens t ≡ true → ((level : ℕ) → level_then t level ≡ Some (suc level)) → is_barred long t ≡ false
+      → Stands long t
+  closing : brace_of long t ≡ Closing → closes t ≡ true → ((level : ℕ) → level_then t level ≡ one_less level) → is_barred long t ≡ false
+      → Stands long t
   paragraph : brace_of long t ≡ Paragraph → is_barred long t ≡ true → Stands long t
-  plain : brace_of long t ≡ Plain → opens t ≡ false → closes t ≡ false → ((level : ℕ) → level_then t level ≡ Some level) → is_barred long t ≡ false → Stands long t
+  plain : brace_of long t ≡ Plain → opens t ≡ false → closes t ≡ false → ((level : ℕ) → level_then t level ≡ Some level) → is_barred long t ≡ false
+      → Stands long t
 
 word-stands : (long : Bool) (name : List ℕ) (b : Bool) → is_barred long (Word name) ≡ b → Stands long (Word name)
 word-stands long name true e = paragraph (ap (λ (b : Bool). if b then Paragraph else Plain) e) e
@@ -55,7 +58,8 @@ begins-does : (delimiter : List Tok) (given rest : List Given) → begins delimi
 begins-does [] given rest e = cc
 begins-does (d ∷ delimiter) [] rest e = cc
 begins-does (d ∷ delimiter) (AToken t ∷ given) rest e = at (tok_eq d t) refl e (λ h. begins-does delimiter given rest h) where
-  at : (b : Bool) → tok_eq d t ≡ b → (if b then begins delimiter given else DoesNot) ≡ Does rest → (begins delimiter given ≡ Does rest → given ≡ before delimiter rest)
+  at : (b : Bool) → tok_eq d t ≡ b → (if b then begins delimiter given else DoesNot) ≡ Does rest
+      → (begins delimiter given ≡ Does rest → given ≡ before delimiter rest)
       → AToken t ∷ given ≡ AToken d ∷ before delimiter rest
   at true h q ih = let s : d ≡ t = (tok-same d t).0 h in λ i. AToken (sym s i) ∷ ih q i
   at false h q ih = cc
@@ -64,7 +68,8 @@ begins-does (d ∷ delimiter) (End ∷ given) rest e = cc
 
 begins-so : (delimiter : List Tok) (behind : List Given) → begins delimiter (before delimiter behind) ≡ Does behind
 begins-so [] behind = refl
-begins-so (d ∷ delimiter) behind = ap (λ (b : Bool). if b then begins delimiter (before delimiter behind) else DoesNot) (same-tok d) ∙ begins-so delimiter behind
+begins-so (d ∷ delimiter) behind =
+    ap (λ (b : Bool). if b then begins delimiter (before delimiter behind) else DoesNot) (same-tok d) ∙ begins-so delimiter behind
 
 -- what does not begin with the delimiter does not begin with it whatever comes
 begins-not : (delimiter : List Tok) (given more behind : List Given) → begins delimiter given ≡ DoesNot → given ++ more ≡ before delimiter behind → ⊥
@@ -88,7 +93,8 @@ pub begins-cut : (delimiter : List Tok) (given : List Given) → begins delimite
 begins-cut [] given e = cc
 begins-cut (d ∷ delimiter) [] e = cc
 begins-cut (d ∷ delimiter) (AToken t ∷ given) e = at (tok_eq d t) refl e (begins-cut delimiter given) where
-  at : (b : Bool) → tok_eq d t ≡ b → (if b then begins delimiter given else DoesNot) ≡ Cut → (begins delimiter given ≡ Cut → Cuts (length delimiter) given)
+  at : (b : Bool) → tok_eq d t ≡ b → (if b then begins delimiter given else DoesNot) ≡ Cut
+      → (begins delimiter given ≡ Cut → Cuts (length delimiter) given)
       → Cuts (suc (length delimiter)) (AToken t ∷ given)
   at true h q ih = later (ih q)
   at false h q ih = cc
@@ -112,7 +118,8 @@ before-before (t ∷ a) b behind = ap (λ l. AToken t ∷ l) (before-before a b 
 
 -- ---- The longest lists that are taken
 
-pub longer-ended : {X : Type 0} (body : List Tok) (t : Tok) (more : List Tok → Meant X) (x : X) (rest : List Given) → longer body t more ≡ Ended x rest → more (body ++ t ∷ []) ≡ Ended x rest
+pub longer-ended : {X : Type 0} (body : List Tok) (t : Tok) (more : List Tok → Meant X) (x : X) (rest : List Given)
+    → longer body t more ≡ Ended x rest → more (body ++ t ∷ []) ≡ Ended x rest
 longer-ended {X} body t more x rest e = at (nat_lt (length body) 1000000) e where
   at : (b : Bool) → (if b then more (body ++ t ∷ []) else Wrong DepthLimit) ≡ Ended x rest → more (body ++ t ∷ []) ≡ Ended x rest
   at true q = q
@@ -134,7 +141,8 @@ record Rest (long : Bool) (delimiter : List Tok) (level : ℕ) (body : List Tok)
   same : arg ≡ without_braces (body ++ toks)
   balanced : levels (Some level) toks ≡ Some 0
   fits : Fits long toks
-  shortest : (other : List Tok) (behind : List Given) → levels (Some level) other ≡ Some 0 → given ≡ before other (before delimiter behind) → length toks ≤ length other
+  shortest : (other : List Tok) (behind : List Given) → levels (Some level) other ≡ Some 0 → given ≡ before other (before delimiter behind)
+      → length toks ≤ length other
 
 -- one more token is taken
 rest-then : (long : Bool) (delimiter : List Tok) (level next : ℕ) (body : List Tok) (t : Tok) (given : List Given) (arg : List Tok) (rest : List Given)
@@ -148,11 +156,13 @@ rest-then long delimiter level next body t given arg rest f e d r = record {
   fits = token f r.fits;
   shortest = shortest;
 } where
-  not-here : (level : ℕ) (behind : List Given) → at_base level (begins delimiter (AToken t ∷ given)) ≡ DoesNot → Some level ≡ Some 0 → AToken t ∷ given ≡ before delimiter behind → ⊥
+  not-here : (level : ℕ) (behind : List Given) → at_base level (begins delimiter (AToken t ∷ given)) ≡ DoesNot → Some level ≡ Some 0
+      → AToken t ∷ given ≡ before delimiter behind → ⊥
   not-here zero behind d l q = begins-not delimiter (AToken t ∷ given) [] behind d (append-nil (AToken t ∷ given) ∙ q)
   not-here (suc n) behind d l q = cc
 
-  shortest : (other : List Tok) (behind : List Given) → levels (Some level) other ≡ Some 0 → AToken t ∷ given ≡ before other (before delimiter behind) → suc (length r.toks) ≤ length other
+  shortest : (other : List Tok) (behind : List Given) → levels (Some level) other ≡ Some 0 → AToken t ∷ given ≡ before other (before delimiter behind)
+      → suc (length r.toks) ≤ length other
   shortest [] behind l q = absurd (not-here level behind d l q)
   shortest (s ∷ other) behind l q =
       let head : t ≡ s = cc in
@@ -228,7 +238,8 @@ delimited-read long delimiter arg given rest e =
 -- ---- Where none is
 
 abbrev None_from : Bool → Tok → List Tok → ℕ → List Tok → List Given → Kind → Type 0
-None_from long d delimiter level body given kind = (other : List Tok) (more behind : List Given) → levels (Some level) other ≡ Some 0 → Fits long other
+None_from long d delimiter level body given kind =
+    (other : List Tok) (more behind : List Given) → levels (Some level) other ≡ Some 0 → Fits long other
     → given ++ more ≡ before other (AToken d ∷ before delimiter behind) → (kind ≡ DepthLimit) × (1000000 < length body + length other)
 
 -- the token does not begin the delimiter, and it is taken, or one token too many
@@ -320,7 +331,8 @@ none-by long d delimiter level body t given kind ih Cut n e = λ other more behi
     absurd (cut-short (length (d ∷ delimiter)) (AToken t ∷ given) more behind (other ++ d ∷ delimiter) c (omega (arith, a)) (q ∙ before-before other (d ∷ delimiter) behind))
 none-by long d delimiter level body t given kind ih DoesNot n e = none-taken long d delimiter level body t given kind n ih (stands long t) e
 
-no-token : (g : Given) → ((t : Tok) → g ≡ AToken t → ⊥) → (given more behind : List Given) (other : List Tok) (d : Tok) → g ∷ given ++ more ≡ before other (AToken d ∷ behind) → ⊥
+no-token : (g : Given) → ((t : Tok) → g ≡ AToken t → ⊥) → (given more behind : List Given) (other : List Tok) (d : Tok)
+    → g ∷ given ++ more ≡ before other (AToken d ∷ behind) → ⊥
 no-token g n given more behind [] d q = let h : g ≡ AToken d = cc in n d h
 no-token g n given more behind (s ∷ other) d q = let h : g ≡ AToken s = cc in n s h
 
@@ -334,7 +346,8 @@ delimited-none long d delimiter level body (AQuantity x ∷ given) kind e =
 delimited-none long d delimiter level body (End ∷ given) kind e =
     λ other more behind l f q. absurd (no-token End (λ t h. cc) given more (before delimiter behind) other d q)
 
-pub none-delimited : (long : Bool) (d : Tok) (delimiter : List Tok) (given : List Given) (kind : Kind) → delimited long (d ∷ delimiter) 0 [] given ≡ Wrong kind
+pub none-delimited : (long : Bool) (d : Tok) (delimiter : List Tok) (given : List Given) (kind : Kind)
+    → delimited long (d ∷ delimiter) 0 [] given ≡ Wrong kind
     → (kind ≡ DepthLimit → ⊥) → NoneDelimited long (d ∷ delimiter) given
 none-delimited long d delimiter given kind e n body more behind b f q = n (delimited-none long d delimiter 0 [] given kind e body more behind b f q).0
 

@@ -62,7 +62,8 @@ unit-command table found n whole fraction t e = record { into = λ all w r. unit
 unit-word : (table : ByDecimal) (found : BySize) (n : Bool) (whole fraction : ℕ) (t : Tok) → begins_unit (class_of t) ≡ true
     → ((w : Worth Scanned) → table n whole fraction [] w → ⊥)
     → Same (UnitOf table found n whole fraction) (table n whole fraction) (AToken t)
-unit-word table found n whole fraction t e filled = record { empty = λ w o. absurd (filled w o); into = λ all w o. unit_letters e o; onto = onto } where
+unit-word table found n whole fraction t e filled =
+    record { empty = λ w o. absurd (filled w o); into = λ all w o. unit_letters e o; onto = onto } where
   onto : (all : List Given) (w : Worth Scanned) → UnitOf table found n whole fraction (AToken t ∷ all) w → table n whole fraction (AToken t ∷ all) w
   onto all w (unit_blank h r) = let q : true ≡ false = sym e ∙ ap begins_unit h in cc
   onto all w (unit_internal h r) = let q : true ≡ false = sym e ∙ ap begins_unit h in cc
@@ -76,7 +77,8 @@ word-unit u table found alone b n whole fraction t given e =
     (one_of u.units (in_unit u n whole fraction) (u.missing UnitMissing) (AToken t ∷ given)) (b.units_read n whole fraction (AToken t ∷ given))
 
 unit-at : (u : Uses) (table : ByDecimal) (found : BySize) (alone : ByQuantity) → Behind u table found alone
-    → (n : Bool) (whole fraction : ℕ) (t : Tok) (given : List Given) → ReadsOr (Lacks u) (UnitOf table found n whole fraction) given (unit u n whole fraction given)
+    → (n : Bool) (whole fraction : ℕ) (t : Tok) (given : List Given)
+    → ReadsOr (Lacks u) (UnitOf table found n whole fraction) given (unit u n whole fraction given)
     → (k : Class) → class_of t ≡ k
     → ReadsOr (Lacks u) (UnitOf table found n whole fraction) (AToken t ∷ given) (unit_as k u n whole fraction t (unit u n whole fraction given) given)
 unit-at u table found alone b n whole fraction t given ih Space e =
@@ -94,7 +96,8 @@ unit-at u table found alone b n whole fraction t given ih Point e = word-unit u 
 unit-at u table found alone b n whole fraction t given ih Other e = word-unit u table found alone b n whole fraction t given (ap begins_unit e)
 
 unit-reads : (u : Uses) (table : ByDecimal) (found : BySize) (alone : ByQuantity) → Behind u table found alone
-    → (n : Bool) (whole fraction : ℕ) (given : List Given) → ReadsOr (Lacks u) (UnitOf table found n whole fraction) given (unit u n whole fraction given)
+    → (n : Bool) (whole fraction : ℕ) (given : List Given)
+    → ReadsOr (Lacks u) (UnitOf table found n whole fraction) given (unit u n whole fraction given)
 unit-reads u table found alone b n whole fraction [] =
     let h = b.unit_rest n whole fraction in
     reads (record { next = AToken (Char category.Letter 112); answers = expanded; more = h.some; worth = h.worth; is = unit_letters refl h.is })
@@ -114,7 +117,8 @@ fraction-not-empty table found n whole ds w (fraction_unit h r) = elim r [ ]
 pub behind-fraction : (table : ByDecimal) (found : BySize) (n : Bool) (whole : ℕ) (ds : List ℕ) (t : Tok) (d : ℕ) → digit_of 10 t ≡ Some d
     → Step (Fraction table found n whole ds) (Fraction table found n whole (ds ++ d ∷ [])) (AToken t)
 behind-fraction table found n whole ds t d e = record { into = λ all w r. fraction_digit e r; onto = onto } where
-  onto : (all : List Given) (w : Worth Scanned) → Fraction table found n whole ds (AToken t ∷ all) w → Fraction table found n whole (ds ++ d ∷ []) all w
+  onto : (all : List Given) (w : Worth Scanned) → Fraction table found n whole ds (AToken t ∷ all) w
+      → Fraction table found n whole (ds ++ d ∷ []) all w
   onto all w (fraction_digit {d = c} h r) = let q : c ≡ d = cc in subst (λ (x : ℕ). Fraction table found n whole (ds ++ x ∷ []) all w) q r
   onto all w (fraction_unit h r) = let q : true ≡ false = sym (ap (λ (o : Option ℕ). if_digit o (λ x. true) false) e) ∙ h in cc
 
@@ -122,7 +126,8 @@ no-fraction-digit : (table : ByDecimal) (found : BySize) (n : Bool) (whole : ℕ
     → Same (Fraction table found n whole ds) (UnitOf table found n whole (fraction_from_digits (take 17 ds))) (AToken t)
 no-fraction-digit table found n whole ds t e =
     record { empty = λ w r. fraction_unit refl r; into = λ all w r. fraction_unit (ap (λ (o : Option ℕ). if_digit o (λ x. true) false) e) r; onto = onto } where
-      onto : (all : List Given) (w : Worth Scanned) → Fraction table found n whole ds (AToken t ∷ all) w → UnitOf table found n whole (fraction_from_digits (take 17 ds)) (AToken t ∷ all) w
+      onto : (all : List Given) (w : Worth Scanned) → Fraction table found n whole ds (AToken t ∷ all) w
+          → UnitOf table found n whole (fraction_from_digits (take 17 ds)) (AToken t ∷ all) w
       onto all w (fraction_digit h r) = cc
       onto all w (fraction_unit h r) = r
 
@@ -138,7 +143,8 @@ fraction-at u table found alone b n whole ds t given ih None e =
     (unit u n whole (fraction_from_digits (take 17 ds)) (AToken t ∷ given)) (unit-reads u table found alone b n whole (fraction_from_digits (take 17 ds)) (AToken t ∷ given))
 
 fraction-reads : (u : Uses) (table : ByDecimal) (found : BySize) (alone : ByQuantity) → Behind u table found alone
-    → (n : Bool) (whole : ℕ) (ds : List ℕ) (given : List Given) → ReadsOr (Lacks u) (Fraction table found n whole ds) given (fraction u n whole ds given)
+    → (n : Bool) (whole : ℕ) (ds : List ℕ) (given : List Given)
+    → ReadsOr (Lacks u) (Fraction table found n whole ds) given (fraction u n whole ds given)
 fraction-reads u table found alone b n whole ds [] =
     let h = b.unit_rest n whole (fraction_from_digits (take 17 ds)) in
     reads (record { next = AToken (Char category.Letter 112); answers = expanded; more = h.some; worth = h.worth; is = fraction_unit refl (unit_letters refl h.is) })
@@ -164,7 +170,8 @@ behind-point table found n whole t e = record { into = λ all w r. a_point e r; 
 
 without-point : (table : ByDecimal) (found : BySize) (n : Bool) (whole : ℕ) (t : Tok) → is_other 46 t ≡ false
     → Same (PointOrUnit table found n whole) (UnitOf table found n whole 0) (AToken t)
-without-point table found n whole t e = record { empty = λ w r. absurd (unit-not-empty table found n whole 0 w r); into = λ all w r. no_point e r; onto = onto } where
+without-point table found n whole t e =
+    record { empty = λ w r. absurd (unit-not-empty table found n whole 0 w r); into = λ all w r. no_point e r; onto = onto } where
   onto : (all : List Given) (w : Worth Scanned) → PointOrUnit table found n whole (AToken t ∷ all) w → UnitOf table found n whole 0 (AToken t ∷ all) w
   onto all w (a_point h r) = cc
   onto all w (no_point h r) = r
@@ -178,7 +185,8 @@ point-at u table found alone b n whole t given false e =
     reads-or-as (without-point table found n whole t e) (point-not-empty table found n whole) given (unit u n whole 0 (AToken t ∷ given)) (unit-reads u table found alone b n whole 0 (AToken t ∷ given))
 
 point-reads : (u : Uses) (table : ByDecimal) (found : BySize) (alone : ByQuantity) → Behind u table found alone
-    → (n : Bool) (whole : ℕ) (g : Given) (given : List Given) → ReadsOr (Lacks u) (PointOrUnit table found n whole) (g ∷ given) (point_or_unit u n whole (g ∷ given))
+    → (n : Bool) (whole : ℕ) (g : Given) (given : List Given)
+    → ReadsOr (Lacks u) (PointOrUnit table found n whole) (g ∷ given) (point_or_unit u n whole (g ∷ given))
 point-reads u table found alone b n whole (AToken t) given = point-at u table found alone b n whole t given (is_other 46 t) refl
 point-reads u table found alone b n whole (AQuantity q) given =
     none (inr refl) (nothing-begins (PointOrUnit table found n whole) (AQuantity q) given (point-not-empty table found n whole) (λ all w r. elim r [ ]))
@@ -193,7 +201,8 @@ whole-onto table found n v e _ w (whole_large h) = cc
 
 whole-same : (table : ByDecimal) (found : BySize) (n : Bool) (v : ℕ) (g : Given) → nat_lt v 2147483648 ≡ true
     → ((all : List Given) → begins_digit (g ∷ all) ≡ false) → Same (BehindWhole table found n v) (PointOrUnit table found n v) g
-whole-same table found n v g e d = record { empty = λ w r. absurd (point-not-empty table found n v w r); into = λ all w r. whole_small e (d all) r; onto = λ all w r. whole-onto table found n v e (g ∷ all) w r }
+whole-same table found n v g e d =
+    record { empty = λ w r. absurd (point-not-empty table found n v w r); into = λ all w r. whole_small e (d all) r; onto = λ all w r. whole-onto table found n v e (g ∷ all) w r }
 
 whole-not-empty : (table : ByDecimal) (found : BySize) (n : Bool) (v : ℕ) → nat_lt v 2147483648 ≡ true
     → (w : Worth Scanned) → BehindWhole table found n v [] w → ⊥
@@ -205,7 +214,8 @@ whole-short table found n v e all w (whole_small h d r) = cc
 whole-short table found n v e _ w (whole_large h) = omega arith
 
 whole-by : (u : Uses) (table : ByDecimal) (found : BySize) (alone : ByQuantity) → Behind u table found alone
-    → (n : Bool) (v : ℕ) (g : Given) (given : List Given) → ((all : List Given) → begins_digit (g ∷ all) ≡ false) → (s : Bool) → nat_lt v 2147483648 ≡ s
+    → (n : Bool) (v : ℕ) (g : Given) (given : List Given) → ((all : List Given) → begins_digit (g ∷ all) ≡ false) → (s : Bool)
+    → nat_lt v 2147483648 ≡ s
     → ReadsOr (Lacks u) (BehindWhole table found n v) (g ∷ given) (if s then point_or_unit u n v (g ∷ given) else Wrong NumberTooBig)
 whole-by u table found alone b n v g given d true e =
     reads-or-as (whole-same table found n v g e d) (whole-not-empty table found n v e) given (point_or_unit u n v (g ∷ given)) (point-reads u table found alone b n v g given)
@@ -241,14 +251,16 @@ large-goes-on table found n v x w le (whole_large h) =
 pub behind-digit : (table : ByDecimal) (found : BySize) (n : Bool) (v d : ℕ) (t : Tok) → digit_of 10 t ≡ Some d
     → Step (Digits 10 (BehindWhole table found n) v) (Digits 10 (BehindWhole table found n) (10 * v + d)) (AToken t)
 behind-digit table found n v d t e = record { into = λ all w r. digit e r; onto = onto } where
-  onto : (all : List Given) (w : Worth Scanned) → Digits 10 (BehindWhole table found n) v (AToken t ∷ all) w → Digits 10 (BehindWhole table found n) (10 * v + d) all w
+  onto : (all : List Given) (w : Worth Scanned) → Digits 10 (BehindWhole table found n) v (AToken t ∷ all) w
+      → Digits 10 (BehindWhole table found n) (10 * v + d) all w
   onto all w (digit {d = c} h r) = let q : c ≡ d = cc in subst (λ (x : ℕ). Digits 10 (BehindWhole table found n) (10 * v + x) all w) q r
   onto all w (last (whole_small h f r)) = let q : true ≡ false = sym (ap (λ (o : Option ℕ). if_digit o (λ x. true) false) e) ∙ f in cc
 
 no-digit : (table : ByDecimal) (found : BySize) (n : Bool) (v : ℕ) (t : Tok) → digit_of 10 t ≡ None
     → Same (Digits 10 (BehindWhole table found n) v) (BehindWhole table found n v) (AToken t)
 no-digit table found n v t e = record { empty = λ w k. last k; into = λ all w k. last k; onto = onto } where
-  onto : (all : List Given) (w : Worth Scanned) → Digits 10 (BehindWhole table found n) v (AToken t ∷ all) w → BehindWhole table found n v (AToken t ∷ all) w
+  onto : (all : List Given) (w : Worth Scanned) → Digits 10 (BehindWhole table found n) v (AToken t ∷ all) w
+      → BehindWhole table found n v (AToken t ∷ all) w
   onto all w (digit h r) = cc
   onto all w (last k) = k
 
@@ -280,7 +292,8 @@ digits-go-on u table found alone b n v false e =
     record { next = AToken (Char category.Other 48); answers = expanded; more = []; worth = TooLarge NumberTooBig; is = digit {d = 0} refl (last (large-goes-on table found n v (10 * v + 0) (TooLarge NumberTooBig) (omega arith) (whole_large e))) }
 
 digits-read : (u : Uses) (table : ByDecimal) (found : BySize) (alone : ByQuantity) → Behind u table found alone
-    → (n : Bool) (v w : ℕ) → Alike v w → (given : List Given) → ReadsOr (Lacks u) (Digits 10 (BehindWhole table found n) v) given (digits 10 w (behind_whole u n) given)
+    → (n : Bool) (v w : ℕ) → Alike v w → (given : List Given)
+    → ReadsOr (Lacks u) (Digits 10 (BehindWhole table found n) v) given (digits 10 w (behind_whole u n) given)
 digits-read u table found alone b n v w a [] = reads (digits-go-on u table found alone b n v (nat_lt v 2147483648) refl)
 digits-read u table found alone b n v w a (AToken t ∷ given) =
     digits-at u table found alone b n v w a t given (λ x y c. digits-read u table found alone b n x y c given) (digit_of 10 t) refl
@@ -301,9 +314,12 @@ internal-reads : (u : Uses) (table : ByDecimal) (found : BySize) (alone : ByQuan
 internal-reads u table found alone b n [] =
     let h = b.alone_has n in
     reads (record { next = AQuantity (quantity.Dimen (pos 0)); answers = a_quantity; more = h.some; worth = h.worth; is = by_itself h.is })
-internal-reads u table found alone b n (AQuantity q ∷ given) = reads-or-behind (behind-quantity alone n q) (λ w r. elim r [ ]) given (u.alone n q given) (b.alone_reads n q given)
-internal-reads u table found alone b n (AToken t ∷ given) = none (inl refl) (nothing-begins (Alone alone n) (AToken t) given (λ w r. elim r [ ]) (λ all w r. elim r [ ]))
-internal-reads u table found alone b n (End ∷ given) = none (inl refl) (nothing-begins (Alone alone n) End given (λ w r. elim r [ ]) (λ all w r. elim r [ ]))
+internal-reads u table found alone b n (AQuantity q ∷ given) =
+    reads-or-behind (behind-quantity alone n q) (λ w r. elim r [ ]) given (u.alone n q given) (b.alone_reads n q given)
+internal-reads u table found alone b n (AToken t ∷ given) =
+    none (inl refl) (nothing-begins (Alone alone n) (AToken t) given (λ w r. elim r [ ]) (λ all w r. elim r [ ]))
+internal-reads u table found alone b n (End ∷ given) =
+    none (inl refl) (nothing-begins (Alone alone n) End given (λ w r. elim r [ ]) (λ all w r. elim r [ ]))
 
 -- ---- A dimension
 

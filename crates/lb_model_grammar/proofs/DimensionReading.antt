@@ -63,7 +63,8 @@ units-each u found h r n whole fraction =
           let k : Has (Spaced (Multiple found n whole fraction (pos 0))) = spaced-has (Multiple found n whole fraction (pos 0)) (sized-has found h (xor n false) Finite (times whole fraction 0)) in
           record { some = AQuantity (quantity.Dimen (pos 0)) ∷ k.some; worth = k.worth; is = size k.is }
 
-      physical : (a b : ℕ) {word : List ℕ} {table : List (List ℕ × Unit_of)} → Each (Lacks u) (InUnit found n whole fraction) (in_unit u n whole fraction) table
+      physical : (a b : ℕ) {word : List ℕ} {table : List (List ℕ × Unit_of)}
+          → Each (Lacks u) (InUnit found n whole fraction) (in_unit u n whole fraction) table
           → Each (Lacks u) (InUnit found n whole fraction) (in_unit u n whole fraction) ((word, Physical a b) ∷ table)
       physical a b each =
           let k : Has (Spaced (Sized found n Finite (a * (65536 * whole + fraction) / b))) = spaced-has (Sized found n Finite (a * (65536 * whole + fraction) / b)) (sized-has found h n Finite (a * (65536 * whole + fraction) / b)) in
@@ -97,7 +98,8 @@ dimension-behind = record {
   found_has = λ order v. nothing-has (scanned.Dimen v);
   alone_reads = alone_reads;
   alone_has = λ n. nothing-has (scanned.Dimen (signed n (pos 0)));
-  units_read = λ n whole fraction given. table-reads (Lacks by_itself_uses) (InUnit found_alone n whole fraction) (in_unit by_itself_uses n whole fraction) (Wrong UnitMissing) (inr refl) units refl
+  units_read =
+      λ n whole fraction given. table-reads (Lacks by_itself_uses) (InUnit found_alone n whole fraction) (in_unit by_itself_uses n whole fraction) (Wrong UnitMissing) (inr refl) units refl
       (units-each by_itself_uses found_alone (λ order v. nothing-has (scanned.Dimen v)) (λ order v all. nothing-more (scanned.Dimen v) all) n whole fraction) given;
   units_filled = λ n whole fraction w. table-not-empty (InUnit found_alone n whole fraction) units w refl;
   unit_rest = point-rest found_alone (λ order v. nothing-has (scanned.Dimen v));
@@ -130,7 +132,8 @@ dimension-goes_on given want e = by (dimension-reads given) where
 pub dimension-wrong : (given : List Given) (kind : Kind) → dimension given ≡ Wrong kind
     → IsTooLarge IsDimension given kind ⊎ (((kind ≡ NumberMissing) ⊎ (kind ≡ UnitMissing)) × NoneBegins IsDimension given)
 dimension-wrong given kind e = by (dimension-reads given) where
-  by : ReadsOr (Lacks by_itself_uses) IsDimension given (dimension given) → IsTooLarge IsDimension given kind ⊎ (((kind ≡ NumberMissing) ⊎ (kind ≡ UnitMissing)) × NoneBegins IsDimension given)
+  by : ReadsOr (Lacks by_itself_uses) IsDimension given (dimension given)
+      → IsTooLarge IsDimension given kind ⊎ (((kind ≡ NumberMissing) ⊎ (kind ≡ UnitMissing)) × NoneBegins IsDimension given)
   by (reads r) = inl (subst (λ (m : Meant Scanned). Reads IsDimension given m) e r)
   by (none (inl m) n) = inr (inl cc, n)
   by (none (inr m) n) = inr (inr cc, n)
@@ -157,7 +160,8 @@ font-all P p found f n whole fraction _ w (size {v = v} {given = all} r) =
 pub in-unit-all : (P : Worth Scanned → Type 0) → P (TooLarge DimenTooLarge) → (found : BySize)
     → ((order : Order) (v : ℤ) (all : List Given) (w : Worth Scanned) → found order v all w → P w)
     → (n : Bool) (whole fraction : ℕ) (u : Unit_of) (all : List Given) (w : Worth Scanned) → InUnit found n whole fraction u all w → P w
-in-unit-all P p found f n whole fraction (Physical a b) all w r = spaced-all P _ (sized-all P p found f n Finite (a * (65536 * whole + fraction) / b)) all w r
+in-unit-all P p found f n whole fraction (Physical a b) all w r =
+    spaced-all P _ (sized-all P p found f n Finite (a * (65536 * whole + fraction) / b)) all w r
 in-unit-all P p found f n whole fraction Scaled all w r = spaced-all P _ (sized-all P p found f n Finite whole) all w r
 in-unit-all P p found f n whole fraction (OfFont asked) all w r = font-all P p found f n whole fraction all w r
 in-unit-all P p found f n whole fraction (Infinite order) all w r = spaced-all P _ (sized-all P p found f n order (65536 * whole + fraction)) all w r
@@ -167,7 +171,8 @@ pub letters-all : (P : Worth Scanned → Type 0) (K : Grammar) → ((all : List 
 letters-all P K k _ all w (ended r) = k all w r
 letters-all P K k _ _ w (letter {word = word} {given = all} h r) = letters-all P K k word all w r
 
-pub one-of-all : (P : Worth Scanned → Type 0) (K : Unit_of → List Given → Worth Scanned → Type 0) → ((u : Unit_of) (all : List Given) (w : Worth Scanned) → K u all w → P w)
+pub one-of-all : (P : Worth Scanned → Type 0) (K : Unit_of → List Given → Worth Scanned → Type 0)
+    → ((u : Unit_of) (all : List Given) (w : Worth Scanned) → K u all w → P w)
     → (table : List (List ℕ × Unit_of)) (all : List Given) (w : Worth Scanned) → OneOf K table all w → P w
 one-of-all P K k _ all w (here {u = u} r) = letters-all P (K u.1) (k u.1) u.0 all w r
 one-of-all P K k _ all w (there {table = table} r) = one-of-all P K k table all w r
@@ -186,18 +191,22 @@ fraction-all : (P : Worth Scanned → Type 0) → P (TooLarge DimenTooLarge) →
     → ((order : Order) (v : ℤ) (all : List Given) (w : Worth Scanned) → found order v all w → P w)
     → ((n : Bool) (whole fraction : ℕ) (all : List Given) (w : Worth Scanned) → table n whole fraction all w → P w)
     → (n : Bool) (whole : ℕ) (ds : List ℕ) (all : List Given) (w : Worth Scanned) → Fraction table found n whole ds all w → P w
-fraction-all P p table found f k n whole ds _ w (fraction_digit {d = d} {given = all} h r) = fraction-all P p table found f k n whole (ds ++ d ∷ []) all w r
-fraction-all P p table found f k n whole ds all w (fraction_unit h r) = unit-all P p table found f k n whole (fraction_from_digits (take 17 ds)) all w r
+fraction-all P p table found f k n whole ds _ w (fraction_digit {d = d} {given = all} h r) =
+    fraction-all P p table found f k n whole (ds ++ d ∷ []) all w r
+fraction-all P p table found f k n whole ds all w (fraction_unit h r) =
+    unit-all P p table found f k n whole (fraction_from_digits (take 17 ds)) all w r
 
 whole-all : (P : Worth Scanned → Type 0) → P (TooLarge DimenTooLarge) → P (TooLarge NumberTooBig) → (table : ByDecimal) (found : BySize)
     → ((order : Order) (v : ℤ) (all : List Given) (w : Worth Scanned) → found order v all w → P w)
     → ((n : Bool) (whole fraction : ℕ) (all : List Given) (w : Worth Scanned) → table n whole fraction all w → P w)
     → (n : Bool) (whole : ℕ) (all : List Given) (w : Worth Scanned) → BehindWhole table found n whole all w → P w
 whole-all P p q table found f k n whole _ w (whole_small h d (a_point {given = all} e r)) = fraction-all P p table found f k n whole [] all w r
-whole-all P p q table found f k n whole _ w (whole_small h d (no_point {t = t} {given = all} e r)) = unit-all P p table found f k n whole 0 (AToken t ∷ all) w r
+whole-all P p q table found f k n whole _ w (whole_small h d (no_point {t = t} {given = all} e r)) =
+    unit-all P p table found f k n whole 0 (AToken t ∷ all) w r
 whole-all P p q table found f k n whole _ _ (whole_large h) = q
 
-digits-all : (P : Worth Scanned → Type 0) (K : ℕ → List Given → Worth Scanned → Type 0) → ((v : ℕ) (all : List Given) (w : Worth Scanned) → K v all w → P w)
+digits-all : (P : Worth Scanned → Type 0) (K : ℕ → List Given → Worth Scanned → Type 0)
+    → ((v : ℕ) (all : List Given) (w : Worth Scanned) → K v all w → P w)
     → (v : ℕ) (all : List Given) (w : Worth Scanned) → Digits 10 K v all w → P w
 digits-all P K k v all w (last r) = k v all w r
 digits-all P K k v _ w (digit {d = d} {given = all} h r) = digits-all P K k (10 * v + d) all w r
@@ -234,9 +243,11 @@ dimension-fine all w r = length-all IsFine (inl refl) (inr refl) units_alone fou
       alone_fine n (quantity.Number v) all w r = absurd r
       alone_fine n (quantity.Skip v) all w r = absurd r
 
-pub dimension-missing : (given : List Given) (kind : Kind) → dimension given ≡ Wrong kind → (kind ≡ NumberMissing) ⊎ (kind ≡ UnitMissing) → NoneBegins IsDimension given
+pub dimension-missing : (given : List Given) (kind : Kind) → dimension given ≡ Wrong kind → (kind ≡ NumberMissing) ⊎ (kind ≡ UnitMissing)
+    → NoneBegins IsDimension given
 dimension-missing given kind e h = by (dimension-wrong given kind e) where
-  by : IsTooLarge IsDimension given kind ⊎ (((kind ≡ NumberMissing) ⊎ (kind ≡ UnitMissing)) × NoneBegins IsDimension given) → NoneBegins IsDimension given
+  by : IsTooLarge IsDimension given kind ⊎ (((kind ≡ NumberMissing) ⊎ (kind ≡ UnitMissing)) × NoneBegins IsDimension given)
+      → NoneBegins IsDimension given
   by (inr n) = n.1
   by (inl t) = absurd (never h (dimension-fine t.is.read (TooLarge kind) t.is.is)) where
     never : (kind ≡ NumberMissing) ⊎ (kind ≡ UnitMissing) → (kind ≡ DimenTooLarge) ⊎ (kind ≡ NumberTooBig) → ⊥
@@ -245,9 +256,11 @@ dimension-missing given kind e h = by (dimension-wrong given kind e) where
     never (inr a) (inl b) = cc
     never (inr a) (inr b) = cc
 
-pub dimension-too_large : (given : List Given) (kind : Kind) → dimension given ≡ Wrong kind → (kind ≡ DimenTooLarge) ⊎ (kind ≡ NumberTooBig) → IsTooLarge IsDimension given kind
+pub dimension-too_large : (given : List Given) (kind : Kind) → dimension given ≡ Wrong kind → (kind ≡ DimenTooLarge) ⊎ (kind ≡ NumberTooBig)
+    → IsTooLarge IsDimension given kind
 dimension-too_large given kind e h = by (dimension-wrong given kind e) where
-  by : IsTooLarge IsDimension given kind ⊎ (((kind ≡ NumberMissing) ⊎ (kind ≡ UnitMissing)) × NoneBegins IsDimension given) → IsTooLarge IsDimension given kind
+  by : IsTooLarge IsDimension given kind ⊎ (((kind ≡ NumberMissing) ⊎ (kind ≡ UnitMissing)) × NoneBegins IsDimension given)
+      → IsTooLarge IsDimension given kind
   by (inl t) = t
   by (inr n) = absurd (never n.0 h) where
     never : (kind ≡ NumberMissing) ⊎ (kind ≡ UnitMissing) → (kind ≡ DimenTooLarge) ⊎ (kind ≡ NumberTooBig) → ⊥

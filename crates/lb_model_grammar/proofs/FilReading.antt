@@ -36,18 +36,22 @@ use Rattle.lb_model_grammar.proofs.WordReading.{spelled}
 
 -- ---- Letters behind those that stand there
 
-front-letters : {X : Type 0} (f : List Given → Meant X) (m : Meant X) (more word : List ℕ) (given rest : List Given) → Front word given rest → letters (word ++ more) f m given ≡ letters more f m rest
+front-letters : {X : Type 0} (f : List Given → Meant X) (m : Meant X) (more word : List ℕ) (given rest : List Given) → Front word given rest
+    → letters (word ++ more) f m given ≡ letters more f m rest
 front-letters f m more _ given _ done = refl
 front-letters f m more _ _ rest (front_also {word = word} {given = given} e l) =
     ap (λ (b : Bool). if b then letters (word ++ more) f m given else m) e ∙ front-letters f m more word given rest l
 
-left-letters : {X : Type 0} (f : List Given → Meant X) (m : Meant X) (more word : List ℕ) (given : List Given) (c : ℕ) (left : List ℕ) → Left word given (c ∷ left) → letters (word ++ more) f m given ≡ Open want.Expanded
+left-letters : {X : Type 0} (f : List Given → Meant X) (m : Meant X) (more word : List ℕ) (given : List Given) (c : ℕ) (left : List ℕ)
+    → Left word given (c ∷ left) → letters (word ++ more) f m given ≡ Open want.Expanded
 left-letters f m more _ _ c left all_left = refl
 left-letters f m more _ _ c left (left_also {word = word} {given = given} e l) =
     ap (λ (b : Bool). if b then letters (word ++ more) f m given else m) e ∙ left-letters f m more word given c left l
 
-differs-letters : {X : Type 0} (f : List Given → Meant X) (m : Meant X) (more word : List ℕ) (given : List Given) → Differs word given → letters (word ++ more) f m given ≡ m
-differs-letters f m more _ _ (token {c = c} {word = word} {t = t} {given = given} e) = ap (λ (b : Bool). if b then letters (word ++ more) f m given else m) e
+differs-letters : {X : Type 0} (f : List Given → Meant X) (m : Meant X) (more word : List ℕ) (given : List Given) → Differs word given
+    → letters (word ++ more) f m given ≡ m
+differs-letters f m more _ _ (token {c = c} {word = word} {t = t} {given = given} e) =
+    ap (λ (b : Bool). if b then letters (word ++ more) f m given else m) e
 differs-letters f m more _ _ quantity = refl
 differs-letters f m more _ _ end = refl
 differs-letters f m more _ _ (differs_also {word = word} {given = given} e l) =
@@ -84,12 +88,16 @@ three K = record { into = λ all w k. filll k; onto = onto } where
   onto : (all : List Given) (w : Worth Scanned) → Fils K Filll all w → K Filll all w
   onto all w (filll k) = k
 
-third-at : (K : Order → List Given → Worth Scanned → Type 0) (read : Order → List Given → Meant Scanned) → ((order : Order) (given : List Given) → Reads (K order) given (read order given))
-    → (t : Tok) (given : List Given) (b : Bool) → is_letter 108 t ≡ b → Reads (Fils K Fill) (AToken t ∷ given) (if b then read Filll given else read Fill (AToken t ∷ given))
-third-at K read r t given true e = reads-behind (behind-third K t e) given (read Filll given) (reads-equal (three K) given (read Filll given) (r Filll given))
+third-at : (K : Order → List Given → Worth Scanned → Type 0) (read : Order → List Given → Meant Scanned)
+    → ((order : Order) (given : List Given) → Reads (K order) given (read order given))
+    → (t : Tok) (given : List Given) (b : Bool) → is_letter 108 t ≡ b
+    → Reads (Fils K Fill) (AToken t ∷ given) (if b then read Filll given else read Fill (AToken t ∷ given))
+third-at K read r t given true e =
+    reads-behind (behind-third K t e) given (read Filll given) (reads-equal (three K) given (read Filll given) (r Filll given))
 third-at K read r t given false e = reads-as (no-third K t e) given (read Fill (AToken t ∷ given)) (r Fill (AToken t ∷ given))
 
-third-reads : (K : Order → List Given → Worth Scanned → Type 0) (read : Order → List Given → Meant Scanned) → ((order : Order) → Has (λ all w. K order (AToken (Char category.Space 32) ∷ all) w))
+third-reads : (K : Order → List Given → Worth Scanned → Type 0) (read : Order → List Given → Meant Scanned)
+    → ((order : Order) → Has (λ all w. K order (AToken (Char category.Space 32) ∷ all) w))
     → ((order : Order) (given : List Given) → Reads (K order) given (read order given))
     → (given : List Given) → Reads (Fils K Fill) given (letters (108 ∷ []) (read Filll) (read Fill given) given)
 third-reads K read h r [] =
@@ -101,7 +109,8 @@ third-reads K read h r (AQuantity q ∷ given) =
 third-reads K read h r (End ∷ given) =
     reads-as (record { empty = λ w k. fill refl k; into = λ all w k. fill refl k; onto = λ all w s. elim s [ fill b k ↦ k ] }) given (read Fill (End ∷ given)) (r Fill (End ∷ given))
 
-second-at : (K : Order → List Given → Worth Scanned → Type 0) (read : Order → List Given → Meant Scanned) → ((order : Order) → Has (λ all w. K order (AToken (Char category.Space 32) ∷ all) w))
+second-at : (K : Order → List Given → Worth Scanned → Type 0) (read : Order → List Given → Meant Scanned)
+    → ((order : Order) → Has (λ all w. K order (AToken (Char category.Space 32) ∷ all) w))
     → ((order : Order) (given : List Given) → Reads (K order) given (read order given))
     → (t : Tok) (given : List Given) (b : Bool) → is_letter 108 t ≡ b
     → Reads (Fils K Fil) (AToken t ∷ given)
@@ -110,9 +119,11 @@ second-at K read h r t given true e =
     reads-behind (behind-second K t e) given (letters (108 ∷ []) (read Filll) (read Fill given) given) (third-reads K read h r given)
 second-at K read h r t given false e = reads-as (no-second K t e) given (read Fil (AToken t ∷ given)) (r Fil (AToken t ∷ given))
 
-second-reads : (K : Order → List Given → Worth Scanned → Type 0) (read : Order → List Given → Meant Scanned) → ((order : Order) → Has (λ all w. K order (AToken (Char category.Space 32) ∷ all) w))
+second-reads : (K : Order → List Given → Worth Scanned → Type 0) (read : Order → List Given → Meant Scanned)
+    → ((order : Order) → Has (λ all w. K order (AToken (Char category.Space 32) ∷ all) w))
     → ((order : Order) (given : List Given) → Reads (K order) given (read order given))
-    → (given : List Given) → Reads (Fils K Fil) given (letters (108 ∷ 108 ∷ []) (read Filll) (letters (108 ∷ []) (read Fill) (read Fil given) given) given)
+    → (given : List Given)
+    → Reads (Fils K Fil) given (letters (108 ∷ 108 ∷ []) (read Filll) (letters (108 ∷ []) (read Fill) (read Fil given) given) given)
 second-reads K read h r [] =
     let k = h Fil in
     record { next = AToken (Char category.Space 32); answers = expanded; more = k.some; worth = k.worth; is = fil refl k.is }
@@ -143,7 +154,8 @@ fils-at F found n whole fraction read h r other given o (short c left l s) =
       answers = expanded;
       more = spelled left (AToken (Char category.Space 32) ∷ k.some);
       worth = k.worth;
-      is = infinite (goes-on (Fils (λ order. InUnit found n whole fraction (Infinite order)) Fil) (AToken (Char category.Space 32) ∷ k.some) k.worth (fil refl k.is) (codes "fil") given c left l);
+      is =
+          infinite (goes-on (Fils (λ order. InUnit found n whole fraction (Infinite order)) Fil) (AToken (Char category.Space 32) ∷ k.some) k.worth (fil refl k.is) (codes "fil") given c left l);
     }))
 fils-at F found n whole fraction read h r other given o (all_there rest l s) =
     subst (λ (m : Meant Scanned). ReadsOr F (GlueUnit found n whole fraction) given m) (sym same)
@@ -167,7 +179,8 @@ fils-at F found n whole fraction read h r other given o (differs d s) =
     subst (λ (m : Meant Scanned). ReadsOr F (GlueUnit found n whole fraction) given m) (sym same)
     (reads-or-among (record { into = λ more all after w e i. finite i; onto = onto }) other o)
   where
-    onto : (more all after : List Given) (w : Worth Scanned) → given ++ more ≡ all ++ after → GlueUnit found n whole fraction all w → OneOf (InUnit found n whole fraction) units all w
+    onto : (more all after : List Given) (w : Worth Scanned) → given ++ more ≡ all ++ after → GlueUnit found n whole fraction all w
+        → OneOf (InUnit found n whole fraction) units all w
     onto more all after w e (infinite i) =
         absurd (letters-differs (Fils (λ order. InUnit found n whole fraction (Infinite order)) Fil) (codes "fil") given all more after w d i e)
     onto more all after w e (finite i) = i

@@ -65,7 +65,8 @@ or-nothing G H x given (Wrong kind) (reads r) into onto empty =
         by : (length all ≤ 0) ⊎ H all w → length all ≤ length r.is.read
         by (inl l) = omega (arith, l)
         by (inr h) = r.is.longest more all behind w e h
-or-nothing G H x given m (none f n) into onto empty = subst (λ (k : Meant Scanned). Reads G given k) (sym f) (record { read = []; parts = refl; is = empty; longest = longest }) where
+or-nothing G H x given m (none f n) into onto empty =
+    subst (λ (k : Meant Scanned). Reads G given k) (sym f) (record { read = []; parts = refl; is = empty; longest = longest }) where
   longest : (more all behind : List Given) (w : Worth Scanned) → given ++ more ≡ all ++ behind → G all w → length all ≤ 0
   longest more all behind w e i = by (onto more all behind w e i) where
     by : (length all ≤ 0) ⊎ H all w → length all ≤ 0
@@ -74,7 +75,8 @@ or-nothing G H x given m (none f n) into onto empty = subst (λ (k : Meant Scann
 
 -- both kinds of lack are one
 lack : (u : Uses) (x : Scanned) (given : List Given) (G : Grammar) (some : List Given) (m : Meant Scanned)
-    → u.missing NumberMissing ≡ Ended x given → u.missing UnitMissing ≡ Ended x given → ReadsOr (Lacks u) G some m → ReadsOr (λ m. m ≡ Ended x given) G some m
+    → u.missing NumberMissing ≡ Ended x given → u.missing UnitMissing ≡ Ended x given → ReadsOr (Lacks u) G some m
+    → ReadsOr (λ m. m ≡ Ended x given) G some m
 lack u x given G some m a b (reads r) = reads r
 lack u x given G some m a b (none (inl f) n) = none (f ∙ a) n
 lack u x given G some m a b (none (inr f) n) = none (f ∙ b) n
@@ -82,7 +84,8 @@ lack u x given G some m a b (none (inr f) n) = none (f ∙ b) n
 -- ---- What glue shrinks by
 
 abbrev shrink_uses : Glue → List Given → Uses
-shrink_uses g given = record { units = glue_units; found = λ order v rest. Ended (Skip (record g { shrink = v; shrink_order = order })) rest; alone = shrink_alone g given; missing = λ kind. Ended (Skip g) given }
+shrink_uses g given =
+    record { units = glue_units; found = λ order v rest. Ended (Skip (record g { shrink = v; shrink_order = order })) rest; alone = shrink_alone g given; missing = λ kind. Ended (Skip g) given }
 
 shrink-behind : (g : Glue) (before : List Given) → Behind (shrink_uses g before) (GlueUnit (shrink_found g)) (shrink_found g) (shrink_by g)
 shrink-behind g before = record {
@@ -90,11 +93,13 @@ shrink-behind g before = record {
   found_has = λ order v. nothing-has (Skip (shrunk g order v));
   alone_reads = alone_reads;
   alone_has = λ n. nothing-has (Skip (shrunk g Finite (signed n (pos 0))));
-  units_read = glue-units-read (shrink_uses g before) (shrink_found g) (λ order v. nothing-has (Skip (shrunk g order v))) (λ order v all. nothing-more (Skip (shrunk g order v)) all);
+  units_read =
+      glue-units-read (shrink_uses g before) (shrink_found g) (λ order v. nothing-has (Skip (shrunk g order v))) (λ order v all. nothing-more (Skip (shrunk g order v)) all);
   units_filled = glue-unit-filled (shrink_found g);
   unit_rest = unit_rest;
 } where
-  alone_reads : (n : Bool) (q : Quantity) (given : List Given) → ReadsOr (Lacks (shrink_uses g before)) (shrink_by g n q) given (shrink_alone g before n q given)
+  alone_reads : (n : Bool) (q : Quantity) (given : List Given)
+      → ReadsOr (Lacks (shrink_uses g before)) (shrink_by g n q) given (shrink_alone g before n q given)
   alone_reads n (quantity.Dimen v) given = reads (nothing-more (Skip (shrunk g Finite (signed n v))) given)
   alone_reads n quantity.NotOne given = none (inl refl) (λ more all behind w e r. r)
   alone_reads n (quantity.Number q) given = none (inl refl) (λ more all behind w e r. r)
@@ -139,7 +144,8 @@ shrink-has g = record { some = []; worth = Value (Skip g); is = no_shrink }
 -- ---- What it stretches by
 
 abbrev stretch_uses : Glue → List Given → Uses
-stretch_uses g given = record { units = glue_units; found = λ order v rest. shrink (record g { stretch = v; stretch_order = order }) rest; alone = stretch_alone g given; missing = λ kind. Ended (Skip g) given }
+stretch_uses g given =
+    record { units = glue_units; found = λ order v rest. shrink (record g { stretch = v; stretch_order = order }) rest; alone = stretch_alone g given; missing = λ kind. Ended (Skip g) given }
 
 stretch-behind : (g : Glue) (before : List Given) → Behind (stretch_uses g before) (GlueUnit (stretch_found g)) (stretch_found g) (stretch_by g)
 stretch-behind g before = record {
@@ -147,11 +153,13 @@ stretch-behind g before = record {
   found_has = λ order v. shrink-has (stretched g order v);
   alone_reads = alone_reads;
   alone_has = λ n. shrink-has (stretched g Finite (signed n (pos 0)));
-  units_read = glue-units-read (stretch_uses g before) (stretch_found g) (λ order v. shrink-has (stretched g order v)) (λ order v all. shrink-reads (stretched g order v) all);
+  units_read =
+      glue-units-read (stretch_uses g before) (stretch_found g) (λ order v. shrink-has (stretched g order v)) (λ order v all. shrink-reads (stretched g order v) all);
   units_filled = glue-unit-filled (stretch_found g);
   unit_rest = unit_rest;
 } where
-  alone_reads : (n : Bool) (q : Quantity) (given : List Given) → ReadsOr (Lacks (stretch_uses g before)) (stretch_by g n q) given (stretch_alone g before n q given)
+  alone_reads : (n : Bool) (q : Quantity) (given : List Given)
+      → ReadsOr (Lacks (stretch_uses g before)) (stretch_by g n q) given (stretch_alone g before n q given)
   alone_reads n (quantity.Dimen v) given = reads (shrink-reads (stretched g Finite (signed n v)) given)
   alone_reads n quantity.NotOne given = none (inl refl) (λ more all behind w e r. r)
   alone_reads n (quantity.Number q) given = none (inl refl) (λ more all behind w e r. r)
@@ -165,7 +173,8 @@ stretch-behind g before = record {
 abbrev Stretches : Glue → List Given → Worth Scanned → Type 0
 Stretches g = IsLength (GlueUnit (stretch_found g)) (stretch_found g) (stretch_by g) false
 
-stretch-onto : (g : Glue) (given rest more all behind : List Given) (w : Worth Scanned) → WordFront (codes "plus") given rest → given ++ more ≡ all ++ behind → Stretch g all w
+stretch-onto : (g : Glue) (given rest more all behind : List Given) (w : Worth Scanned) → WordFront (codes "plus") given rest
+    → given ++ more ≡ all ++ behind → Stretch g all w
     → (length all ≤ 0) ⊎ Keyword (Stretches g) (codes "plus") all w
 stretch-onto g given rest more _ behind _ l e (no_stretch no_shrink) = inl (omega arith)
 stretch-onto g given rest more all behind w l e (no_stretch (minus k)) =
@@ -212,7 +221,8 @@ glue-behind = record {
   found_has = λ order v. stretch-has (of_width v);
   alone_reads = alone_reads;
   alone_has = λ n. stretch-has (of_width (signed n (pos 0)));
-  units_read = λ n whole fraction given. table-reads (Lacks glue_uses) (InUnit glue_found n whole fraction) (in_unit glue_uses n whole fraction) (Wrong UnitMissing) (inr refl) units refl
+  units_read =
+      λ n whole fraction given. table-reads (Lacks glue_uses) (InUnit glue_found n whole fraction) (in_unit glue_uses n whole fraction) (Wrong UnitMissing) (inr refl) units refl
       (units-each glue_uses glue_found (λ order v. stretch-has (of_width v)) (λ order v all. stretch-reads (of_width v) all) n whole fraction) given;
   units_filled = λ n whole fraction w. table-not-empty (InUnit glue_found n whole fraction) units w refl;
   unit_rest = point-rest glue_found (λ order v. stretch-has (of_width v));
@@ -245,7 +255,8 @@ glue-goes_on given want e = by (glue-reads given) where
 pub glue-wrong : (given : List Given) (kind : Kind) → glue given ≡ Wrong kind
     → IsTooLarge IsGlue given kind ⊎ (((kind ≡ NumberMissing) ⊎ (kind ≡ UnitMissing)) × NoneBegins IsGlue given)
 glue-wrong given kind e = by (glue-reads given) where
-  by : ReadsOr (Lacks glue_uses) IsGlue given (glue given) → IsTooLarge IsGlue given kind ⊎ (((kind ≡ NumberMissing) ⊎ (kind ≡ UnitMissing)) × NoneBegins IsGlue given)
+  by : ReadsOr (Lacks glue_uses) IsGlue given (glue given)
+      → IsTooLarge IsGlue given kind ⊎ (((kind ≡ NumberMissing) ⊎ (kind ≡ UnitMissing)) × NoneBegins IsGlue given)
   by (reads r) = inl (subst (λ (m : Meant Scanned). Reads IsGlue given m) e r)
   by (none (inl m) n) = inr (inl cc, n)
   by (none (inr m) n) = inr (inr cc, n)
@@ -257,7 +268,8 @@ keyword-all : (P : Worth Scanned → Type 0) (K : Grammar) → ((all : List Give
 keyword-all P K k word _ w (key_blank {given = all} h r) = keyword-all P K k word all w r
 keyword-all P K k word all w (key_letters b l) = letters-all P K k word all w l
 
-fils-all : (P : Worth Scanned → Type 0) (K : Order → List Given → Worth Scanned → Type 0) → ((order : Order) (all : List Given) (w : Worth Scanned) → K order all w → P w)
+fils-all : (P : Worth Scanned → Type 0) (K : Order → List Given → Worth Scanned → Type 0)
+    → ((order : Order) (all : List Given) (w : Worth Scanned) → K order all w → P w)
     → (order : Order) (all : List Given) (w : Worth Scanned) → Fils K order all w → P w
 fils-all P K k _ all w (fil b r) = k Fil all w r
 fils-all P K k _ all w (fill b r) = k Fill all w r
@@ -317,13 +329,15 @@ never kind (inl a) (inr b) = cc
 never kind (inr a) (inl b) = cc
 never kind (inr a) (inr b) = cc
 
-pub glue-missing : (given : List Given) (kind : Kind) → glue given ≡ Wrong kind → (kind ≡ NumberMissing) ⊎ (kind ≡ UnitMissing) → NoneBegins IsGlue given
+pub glue-missing : (given : List Given) (kind : Kind) → glue given ≡ Wrong kind → (kind ≡ NumberMissing) ⊎ (kind ≡ UnitMissing)
+    → NoneBegins IsGlue given
 glue-missing given kind e h = by (glue-wrong given kind e) where
   by : IsTooLarge IsGlue given kind ⊎ (((kind ≡ NumberMissing) ⊎ (kind ≡ UnitMissing)) × NoneBegins IsGlue given) → NoneBegins IsGlue given
   by (inr n) = n.1
   by (inl t) = absurd (never kind h (glue-fine t.is.read (TooLarge kind) t.is.is))
 
-pub glue-too_large : (given : List Given) (kind : Kind) → glue given ≡ Wrong kind → (kind ≡ DimenTooLarge) ⊎ (kind ≡ NumberTooBig) → IsTooLarge IsGlue given kind
+pub glue-too_large : (given : List Given) (kind : Kind) → glue given ≡ Wrong kind → (kind ≡ DimenTooLarge) ⊎ (kind ≡ NumberTooBig)
+    → IsTooLarge IsGlue given kind
 glue-too_large given kind e h = by (glue-wrong given kind e) where
   by : IsTooLarge IsGlue given kind ⊎ (((kind ≡ NumberMissing) ⊎ (kind ≡ UnitMissing)) × NoneBegins IsGlue given) → IsTooLarge IsGlue given kind
   by (inl t) = t

@@ -57,7 +57,8 @@ closed-level t level e = by (stands true t) where
   by (paragraph k f) = absurd (barred-short t f)
   by (plain k o c l f) = cc
 
-closes-at : (level : ℕ) (inner : List Tok) (c : Tok) → closes c ≡ true → levels (Some level) inner ≡ Some 0 → closes_at_end (Some level) (inner ++ c ∷ []) ≡ true
+closes-at : (level : ℕ) (inner : List Tok) (c : Tok) → closes c ≡ true → levels (Some level) inner ≡ Some 0
+    → closes_at_end (Some level) (inner ++ c ∷ []) ≡ true
 closes-at level [] c e l = at level l where
   at : (level : ℕ) → Some level ≡ Some 0 → closes_at_end (level_then c level) [] ≡ true
   at zero l = ap (λ (o : Option ℕ). closes_at_end o []) (closed-level c 0 e)
@@ -97,7 +98,8 @@ closed-none t level e = by (stands true t) where
 closed-of : (level : ℕ) (toks : List Tok) → closes_at_end (Some level) toks ≡ true → Closed level toks
 closed-of level [] e = cc
 closed-of level (t ∷ toks) e = by (level_then t level) refl toks e (λ k q. closed-of k toks q) where
-  by : (o : Option ℕ) → level_then t level ≡ o → (toks : List Tok) → closes_at_end o toks ≡ true → ((k : ℕ) → closes_at_end (Some k) toks ≡ true → Closed k toks) → Closed level (t ∷ toks)
+  by : (o : Option ℕ) → level_then t level ≡ o → (toks : List Tok) → closes_at_end o toks ≡ true
+      → ((k : ℕ) → closes_at_end (Some k) toks ≡ true → Closed k toks) → Closed level (t ∷ toks)
   by None l [] q ih =
       let c = closed-none t level l in
       record { inner = []; last = t; closed = c.0; balanced = c.1; parts = refl }
@@ -128,7 +130,8 @@ record Rest (long : Bool) (level : ℕ) (body : List Tok) (given : List Given) (
   fits : Fits long toks
 
 rest-then : (long : Bool) (level next : ℕ) (body : List Tok) (t : Tok) (given : List Given) (arg : List Tok) (rest : List Given)
-    → is_barred long t ≡ false → level_then t level ≡ Some next → Rest long next (body ++ t ∷ []) given arg rest → Rest long level body (AToken t ∷ given) arg rest
+    → is_barred long t ≡ false → level_then t level ≡ Some next → Rest long next (body ++ t ∷ []) given arg rest
+    → Rest long level body (AToken t ∷ given) arg rest
 rest-then long level next body t given arg rest f e r = record {
   toks = t ∷ r.toks;
   last = r.last;
@@ -163,10 +166,12 @@ group-taken long level body t given arg rest ih (plain k o c l f) e =
     sym (ap (λ (x : Brace). group_as x level body t (λ l b. group long l b given) given) k) ∙ e in
     rest-then long level level body t given arg rest f (l level) (ih level (body ++ t ∷ []) (longer-ended body t (λ b. group long level b given) arg rest q))
 
-group-rest : (long : Bool) (level : ℕ) (body : List Tok) (given : List Given) (arg : List Tok) (rest : List Given) → group long level body given ≡ Ended arg rest
+group-rest : (long : Bool) (level : ℕ) (body : List Tok) (given : List Given) (arg : List Tok) (rest : List Given)
+    → group long level body given ≡ Ended arg rest
     → Rest long level body given arg rest
 group-rest long level body [] arg rest e = cc
-group-rest long level body (AToken t ∷ given) arg rest e = group-taken long level body t given arg rest (λ l b. group-rest long l b given arg rest) (stands long t) e
+group-rest long level body (AToken t ∷ given) arg rest e =
+    group-taken long level body t given arg rest (λ l b. group-rest long l b given arg rest) (stands long t) e
 group-rest long level body (AQuantity q ∷ given) arg rest e = cc
 group-rest long level body (End ∷ given) arg rest e = cc
 
@@ -185,16 +190,19 @@ undelimited-taken long t given arg rest ih (paragraph k f) e =
     let q : Wrong Runaway ≡ Ended arg rest = sym (ap (λ (x : Brace). undelimited_as x long t (undelimited long given) given) k) ∙ e in cc
 undelimited-taken long t given arg rest ih (plain k o c l f) e =
     by (is_space t) refl (sym (ap (λ (x : Brace). undelimited_as x long t (undelimited long given) given) k) ∙ e) where
-      by : (b : Bool) → is_space t ≡ b → (if b then undelimited long given else Ended (t ∷ []) given) ≡ Ended arg rest → IsUndelimited long (AToken t ∷ given) arg rest
+      by : (b : Bool) → is_space t ≡ b → (if b then undelimited long given else Ended (t ∷ []) given) ≡ Ended arg rest
+          → IsUndelimited long (AToken t ∷ given) arg rest
       by true s q = blank s (ih q)
       by false s q =
           let a : t ∷ [] ≡ arg = cc in
           let r : given ≡ rest = cc in
           subst (λ (x : List Given). IsUndelimited long (AToken t ∷ given) arg x) r (subst (λ (x : List Tok). IsUndelimited long (AToken t ∷ given) x given) a (a_token s o c f))
 
-pub undelimited-read : (long : Bool) (given rest : List Given) (arg : List Tok) → undelimited long given ≡ Ended arg rest → IsUndelimited long given arg rest
+pub undelimited-read : (long : Bool) (given rest : List Given) (arg : List Tok) → undelimited long given ≡ Ended arg rest
+    → IsUndelimited long given arg rest
 undelimited-read long [] rest arg e = cc
-undelimited-read long (AToken t ∷ given) rest arg e = undelimited-taken long t given arg rest (λ q. undelimited-read long given rest arg q) (stands long t) e
+undelimited-read long (AToken t ∷ given) rest arg e =
+    undelimited-taken long t given arg rest (λ q. undelimited-read long given rest arg q) (stands long t) e
 undelimited-read long (AQuantity q ∷ given) rest arg e = cc
 undelimited-read long (End ∷ given) rest arg e = cc
 
@@ -218,19 +226,23 @@ closes-then level next t given e r = record {
   parts = ap (λ l. AToken t ∷ l) r.parts;
 }
 
-went-on : {X : Type 0} (body : List Tok) (t : Tok) (more : List Tok → Meant X) → longer body t more ≡ Wrong UseMismatch → more (body ++ t ∷ []) ≡ Wrong UseMismatch
+went-on : {X : Type 0} (body : List Tok) (t : Tok) (more : List Tok → Meant X) → longer body t more ≡ Wrong UseMismatch
+    → more (body ++ t ∷ []) ≡ Wrong UseMismatch
 went-on {X} body t more e = by (longer-wrong body t more UseMismatch e) where
-  by : ((UseMismatch ≡ DepthLimit) × (1000000 ≤ length body)) ⊎ (more (body ++ t ∷ []) ≡ Wrong UseMismatch) → more (body ++ t ∷ []) ≡ Wrong UseMismatch
+  by : ((UseMismatch ≡ DepthLimit) × (1000000 ≤ length body)) ⊎ (more (body ++ t ∷ []) ≡ Wrong UseMismatch)
+      → more (body ++ t ∷ []) ≡ Wrong UseMismatch
   by (inl m) = let q : UseMismatch ≡ DepthLimit = m.0 in cc
   by (inr q) = q
 
 closes-taken : (long : Bool) (delimiter : List Tok) (level : ℕ) (body : List Tok) (t : Tok) (given : List Given)
     → ((l : ℕ) (b : List Tok) → delimited long delimiter l b given ≡ Wrong UseMismatch → Closes l given)
-    → Stands long t → delimited_as (brace_of long t) level body t (λ l b. delimited long delimiter l b given) ≡ Wrong UseMismatch → Closes level (AToken t ∷ given)
+    → Stands long t → delimited_as (brace_of long t) level body t (λ l b. delimited long delimiter l b given) ≡ Wrong UseMismatch
+    → Closes level (AToken t ∷ given)
 closes-taken long delimiter level body t given ih (opening k o l f) e =
     closes-then level (suc level) t given (l level) (ih (suc level) (body ++ t ∷ []) (went-on body t (λ b. delimited long delimiter (suc level) b given)
     (sym (ap (λ (x : Brace). delimited_as x level body t (λ l b. delimited long delimiter l b given)) k) ∙ e)))
-closes-taken long delimiter zero body t given ih (closing k c l f) e = record { toks = []; last = t; behind = given; closed = c; balanced = refl; parts = refl }
+closes-taken long delimiter zero body t given ih (closing k c l f) e =
+    record { toks = []; last = t; behind = given; closed = c; balanced = refl; parts = refl }
 closes-taken long delimiter (suc level) body t given ih (closing k c l f) e =
     closes-then (suc level) level t given (l (suc level)) (ih level (body ++ t ∷ []) (went-on body t (λ b. delimited long delimiter level b given)
     (sym (ap (λ (x : Brace). delimited_as x (suc level) body t (λ l b. delimited long delimiter l b given)) k) ∙ e)))
@@ -242,20 +254,23 @@ closes-taken long delimiter level body t given ih (plain k o c l f) e =
 
 closes-by : (long : Bool) (delimiter : List Tok) (level : ℕ) (body : List Tok) (t : Tok) (given : List Given)
     → ((l : ℕ) (b : List Tok) → delimited long delimiter l b given ≡ Wrong UseMismatch → Closes l given) → (begun : Begun)
-    → delimited_by begun body (delimited_as (brace_of long t) level body t (λ l b. delimited long delimiter l b given)) ≡ Wrong UseMismatch → Closes level (AToken t ∷ given)
+    → delimited_by begun body (delimited_as (brace_of long t) level body t (λ l b. delimited long delimiter l b given)) ≡ Wrong UseMismatch
+    → Closes level (AToken t ∷ given)
 closes-by long delimiter level body t given ih (Does r) e = cc
 closes-by long delimiter level body t given ih May e = cc
 closes-by long delimiter level body t given ih Cut e = cc
 closes-by long delimiter level body t given ih DoesNot e = closes-taken long delimiter level body t given ih (stands long t) e
 
-closes-from : (long : Bool) (delimiter : List Tok) (level : ℕ) (body : List Tok) (given : List Given) → delimited long delimiter level body given ≡ Wrong UseMismatch → Closes level given
+closes-from : (long : Bool) (delimiter : List Tok) (level : ℕ) (body : List Tok) (given : List Given)
+    → delimited long delimiter level body given ≡ Wrong UseMismatch → Closes level given
 closes-from long delimiter level body [] e = cc
 closes-from long delimiter level body (AToken t ∷ given) e =
     closes-by long delimiter level body t given (λ l b. closes-from long delimiter l b given) (at_base level (begins delimiter (AToken t ∷ given))) e
 closes-from long delimiter level body (AQuantity q ∷ given) e = cc
 closes-from long delimiter level body (End ∷ given) e = cc
 
-pub mismatched : (long : Bool) (delimiter : List Tok) (given : List Given) → delimited long delimiter 0 [] given ≡ Wrong UseMismatch → ClosesAtBase given
+pub mismatched : (long : Bool) (delimiter : List Tok) (given : List Given) → delimited long delimiter 0 [] given ≡ Wrong UseMismatch
+    → ClosesAtBase given
 mismatched long delimiter given e =
     let r : Closes 0 given = closes-from long delimiter 0 [] given e in
     record { body = r.toks; closing = r.last; behind = r.behind; closed = r.closed; balanced = r.balanced; parts = r.parts }
@@ -267,7 +282,8 @@ cut-stops long _ _ cut_quantity = stop_quantity
 cut-stops long _ _ cut_end = stop_end
 cut-stops long _ _ (cut_later {n = n} {t = t} {given = given} c) = stop_later (cut-stops long n given c)
 
-ran-on : {X : Type 0} (body : List Tok) (t : Tok) (more : List Tok → Meant X) → longer body t more ≡ Wrong Runaway → more (body ++ t ∷ []) ≡ Wrong Runaway
+ran-on : {X : Type 0} (body : List Tok) (t : Tok) (more : List Tok → Meant X) → longer body t more ≡ Wrong Runaway
+    → more (body ++ t ∷ []) ≡ Wrong Runaway
 ran-on {X} body t more e = by (longer-wrong body t more Runaway e) where
   by : ((Runaway ≡ DepthLimit) × (1000000 ≤ length body)) ⊎ (more (body ++ t ∷ []) ≡ Wrong Runaway) → more (body ++ t ∷ []) ≡ Wrong Runaway
   by (inl m) = let q : Runaway ≡ DepthLimit = m.0 in cc
@@ -275,7 +291,8 @@ ran-on {X} body t more e = by (longer-wrong body t more Runaway e) where
 
 stops-taken : (long : Bool) (delimiter : List Tok) (level : ℕ) (body : List Tok) (t : Tok) (given : List Given)
     → ((l : ℕ) (b : List Tok) → delimited long delimiter l b given ≡ Wrong Runaway → Stops long given)
-    → Stands long t → delimited_as (brace_of long t) level body t (λ l b. delimited long delimiter l b given) ≡ Wrong Runaway → Stops long (AToken t ∷ given)
+    → Stands long t → delimited_as (brace_of long t) level body t (λ l b. delimited long delimiter l b given) ≡ Wrong Runaway
+    → Stops long (AToken t ∷ given)
 stops-taken long delimiter level body t given ih (opening k o l f) e =
     stop_later (ih (suc level) (body ++ t ∷ []) (ran-on body t (λ b. delimited long delimiter (suc level) b given)
     (sym (ap (λ (x : Brace). delimited_as x level body t (λ l b. delimited long delimiter l b given)) k) ∙ e)))
@@ -290,15 +307,18 @@ stops-taken long delimiter level body t given ih (plain k o c l f) e =
     (sym (ap (λ (x : Brace). delimited_as x level body t (λ l b. delimited long delimiter l b given)) k) ∙ e)))
 
 stops-by : (long : Bool) (delimiter : List Tok) (level : ℕ) (body : List Tok) (t : Tok) (given : List Given)
-    → ((l : ℕ) (b : List Tok) → delimited long delimiter l b given ≡ Wrong Runaway → Stops long given) → (begun : Begun) → at_base level (begins delimiter (AToken t ∷ given)) ≡ begun
-    → delimited_by begun body (delimited_as (brace_of long t) level body t (λ l b. delimited long delimiter l b given)) ≡ Wrong Runaway → Stops long (AToken t ∷ given)
+    → ((l : ℕ) (b : List Tok) → delimited long delimiter l b given ≡ Wrong Runaway → Stops long given) → (begun : Begun)
+    → at_base level (begins delimiter (AToken t ∷ given)) ≡ begun
+    → delimited_by begun body (delimited_as (brace_of long t) level body t (λ l b. delimited long delimiter l b given)) ≡ Wrong Runaway
+    → Stops long (AToken t ∷ given)
 stops-by long delimiter level body t given ih (Does r) n e = cc
 stops-by long delimiter level body t given ih May n e = cc
 stops-by long delimiter level body t given ih Cut n e =
     cut-stops long (length delimiter) (AToken t ∷ given) (begins-cut delimiter (AToken t ∷ given) (cut-at-base level (begins delimiter (AToken t ∷ given)) n))
 stops-by long delimiter level body t given ih DoesNot n e = stops-taken long delimiter level body t given ih (stands long t) e
 
-stops-from : (long : Bool) (delimiter : List Tok) (level : ℕ) (body : List Tok) (given : List Given) → delimited long delimiter level body given ≡ Wrong Runaway → Stops long given
+stops-from : (long : Bool) (delimiter : List Tok) (level : ℕ) (body : List Tok) (given : List Given)
+    → delimited long delimiter level body given ≡ Wrong Runaway → Stops long given
 stops-from long delimiter level body [] e = cc
 stops-from long delimiter level body (AToken t ∷ given) e =
     stops-by long delimiter level body t given (λ l b. stops-from long delimiter l b given) (at_base level (begins delimiter (AToken t ∷ given))) refl e
@@ -314,7 +334,8 @@ stop-then : (long : Bool) (body : List Tok) (t : Tok) (given : List Given) (more
     → (more (body ++ t ∷ []) ≡ Wrong Runaway → Stops long given) → Stops long (AToken t ∷ given)
 stop-then long body t given more e ih = stop_later (ih (ran-on body t more e))
 
-group-stops-at : (long : Bool) (level : ℕ) (body : List Tok) (t : Tok) (given : List Given) → ((l : ℕ) (b : List Tok) → group long l b given ≡ Wrong Runaway → Stops long given)
+group-stops-at : (long : Bool) (level : ℕ) (body : List Tok) (t : Tok) (given : List Given)
+    → ((l : ℕ) (b : List Tok) → group long l b given ≡ Wrong Runaway → Stops long given)
     → Stands long t → group_as (brace_of long t) level body t (λ l b. group long l b given) given ≡ Wrong Runaway → Stops long (AToken t ∷ given)
 group-stops-at long level body t given ih (opening k o l f) e =
     stop-then long body t given (λ b. group long (suc level) b given) (sym (ap (λ (x : Brace). group_as x level body t (λ l b. group long l b given) given) k) ∙ e)
@@ -354,7 +375,8 @@ undelimited-stops long (AToken t ∷ given) e = undelimited-stops-at long t give
 undelimited-stops long (AQuantity q ∷ given) e = stop_quantity
 undelimited-stops long (End ∷ given) e = stop_end
 
-group-fits-at : (long : Bool) (level : ℕ) (body : List Tok) (t : Tok) (given : List Given) → ((l : ℕ) (b : List Tok) → group long l b given ≡ Wrong UseMismatch → ⊥)
+group-fits-at : (long : Bool) (level : ℕ) (body : List Tok) (t : Tok) (given : List Given)
+    → ((l : ℕ) (b : List Tok) → group long l b given ≡ Wrong UseMismatch → ⊥)
     → Stands long t → group_as (brace_of long t) level body t (λ l b. group long l b given) given ≡ Wrong UseMismatch → ⊥
 group-fits-at long level body t given ih (opening k o l f) e =
     ih (suc level) (body ++ t ∷ []) (went-on body t (λ b. group long (suc level) b given) (sym (ap (λ (x : Brace). group_as x level body t (λ l b. group long l b given) given) k) ∙ e))

@@ -41,7 +41,8 @@ pub data WordDiffers (word : List ℕ) : List Given → Type 0 where
 pub data WordFate (word : List ℕ) (given : List Given) : Type 0 where
   word_short : (c : ℕ) (left : List ℕ) → WordLeft word given (c ∷ left)
       → ((f : List Given → Meant Scanned) (m : Meant Scanned) → keyword word f m given ≡ Open want.Expanded) → WordFate word given
-  word_whole : (rest : List Given) → WordFront word given rest → ((f : List Given → Meant Scanned) (m : Meant Scanned) → keyword word f m given ≡ f rest) → WordFate word given
+  word_whole : (rest : List Given) → WordFront word given rest
+      → ((f : List Given → Meant Scanned) (m : Meant Scanned) → keyword word f m given ≡ f rest) → WordFate word given
   word_differs : WordDiffers word given → ((f : List Given → Meant Scanned) (m : Meant Scanned) → keyword word f m given ≡ m) → WordFate word given
 
 fate-blank : (word : List ℕ) (t : Tok) (given : List Given) → is_space t ≡ true → WordFate word given → WordFate word (AToken t ∷ given)
@@ -70,13 +71,15 @@ word-fate c word (AToken t ∷ given) = fate-at (c ∷ word) t given (word-fate 
 word-fate c word (AQuantity q ∷ given) = word_differs (differs_here refl quantity) (λ f m. refl)
 word-fate c word (End ∷ given) = word_differs (differs_here refl end) (λ f m. refl)
 
-still-no-blank : (given more : List Given) (c : ℕ) → begins_blank given ≡ false → begins_blank (given ++ AToken (Char category.Letter c) ∷ more) ≡ false
+still-no-blank : (given more : List Given) (c : ℕ) → begins_blank given ≡ false
+    → begins_blank (given ++ AToken (Char category.Letter c) ∷ more) ≡ false
 still-no-blank [] more c e = refl
 still-no-blank (AToken t ∷ given) more c e = e
 still-no-blank (AQuantity q ∷ given) more c e = refl
 still-no-blank (End ∷ given) more c e = refl
 
-pub word-goes-on : (K : Grammar) (some : List Given) (worth : Worth Scanned) → K some worth → (word : List ℕ) (given : List Given) (c : ℕ) (left : List ℕ)
+pub word-goes-on : (K : Grammar) (some : List Given) (worth : Worth Scanned) → K some worth
+    → (word : List ℕ) (given : List Given) (c : ℕ) (left : List ℕ)
     → WordLeft word given (c ∷ left) → Keyword K word (given ++ AToken (Char category.Letter c) ∷ spelled left some) worth
 word-goes-on K some worth k word _ c left (left_blank {given = given} e l) = blank e (word-goes-on K some worth k word given c left l)
 word-goes-on K some worth k word given c left (left_here e l) =
@@ -93,7 +96,8 @@ word-front-reads F K m c word _ rest (front_blank {t = t} {given = given} e l) r
 word-front-reads F K m c word given rest (front_here e l) r = front-token F K m c word given rest e l (front-reads F K m (c ∷ word) given rest l r)
 
 -- what begins with the one word does not begin with another
-pub word-not-other : (K : Grammar) (c : ℕ) (word other : List ℕ) (given rest all more behind : List Given) (w : Worth Scanned) → apart (c ∷ word) other ≡ true
+pub word-not-other : (K : Grammar) (c : ℕ) (word other : List ℕ) (given rest all more behind : List Given) (w : Worth Scanned)
+    → apart (c ∷ word) other ≡ true
     → WordFront (c ∷ word) given rest → Keyword K other all w → given ++ more ≡ all ++ behind → ⊥
 word-not-other K c word other _ rest _ more behind w a (front_blank {t = t} {given = given} e l) (blank {t = s} {given = all} h r) q =
     let tail : given ++ more ≡ all ++ behind = cc in

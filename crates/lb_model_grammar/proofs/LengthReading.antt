@@ -61,7 +61,8 @@ no-space K t e = record { empty = λ w k. bare refl k; into = λ all w k. bare e
   onto all w (space h k) = cc
 
 spaced-at : (K : Grammar) (done : List Given → Meant Scanned) → ((given : List Given) → Reads K given (done given))
-    → (t : Tok) (given : List Given) (b : Bool) → is_space t ≡ b → Reads (Spaced K) (AToken t ∷ given) (if b then done given else done (AToken t ∷ given))
+    → (t : Tok) (given : List Given) (b : Bool) → is_space t ≡ b
+    → Reads (Spaced K) (AToken t ∷ given) (if b then done given else done (AToken t ∷ given))
 spaced-at K done r t given true e = reads-behind (behind-space K t e) given (done given) (r given)
 spaced-at K done r t given false e = reads-as (no-space K t e) given (done (AToken t ∷ given)) (r (AToken t ∷ given))
 
@@ -119,7 +120,8 @@ sized-has found h n order x = sized-has-at found h n order x (nat_lt x 107374182
 pub spaced-size : (u : Uses) (found : BySize) → ((order : Order) (v : ℤ) → Has (found order v))
     → ((order : Order) (v : ℤ) (given : List Given) → Reads (found order v) given (u.found order v given))
     → (n : Bool) (order : Order) (x : ℕ) (given : List Given) → Reads (Spaced (Sized found n order x)) given (space_before (sized u n order x) given)
-spaced-size u found h r n order x given = spaced-reads (Sized found n order x) (sized u n order x) (sized-has found h n order x) (sized-reads u found r n order x) given
+spaced-size u found h r n order x given =
+    spaced-reads (Sized found n order x) (sized u n order x) (sized-has found h n order x) (sized-reads u found r n order x) given
 
 -- ---- Units of the font
 
@@ -133,7 +135,8 @@ font-not-empty found n whole fraction w s = elim s [ ]
 no-size : (u : Uses) (found : BySize) (n : Bool) (whole fraction : ℕ) (g : Given)
     → ((all : List Given) (w : Worth Scanned) → FontSize found n whole fraction (g ∷ all) w → ⊥) → (given : List Given)
     → ReadsOr (Lacks u) (FontSize found n whole fraction) (g ∷ given) (u.missing UnitMissing)
-no-size u found n whole fraction g at given = none (inr refl) (nothing-begins (FontSize found n whole fraction) g given (font-not-empty found n whole fraction) at)
+no-size u found n whole fraction g at given =
+    none (inr refl) (nothing-begins (FontSize found n whole fraction) g given (font-not-empty found n whole fraction) at)
 
 pub font-reads : (u : Uses) (found : BySize) → ((order : Order) (v : ℤ) → Has (found order v))
     → ((order : Order) (v : ℤ) (given : List Given) → Reads (found order v) given (u.found order v given))
@@ -144,9 +147,12 @@ font-reads u found h r asked a n whole fraction [] =
     reads (record { next = AQuantity (quantity.Dimen (pos 0)); answers = a; more = k.some; worth = k.worth; is = size k.is })
 font-reads u found h r asked a n whole fraction (AQuantity (quantity.Dimen v) ∷ given) =
     reads (reads-behind (behind-size found n whole fraction v) given _ (spaced-size u found h r (xor n (is_negative v)) Finite (times whole fraction (nat_abs v)) given))
-font-reads u found h r asked a n whole fraction (AQuantity quantity.NotOne ∷ given) = no-size u found n whole fraction (AQuantity quantity.NotOne) (λ all w s. elim s [ ]) given
-font-reads u found h r asked a n whole fraction (AQuantity (quantity.Number q) ∷ given) = no-size u found n whole fraction (AQuantity (quantity.Number q)) (λ all w s. elim s [ ]) given
-font-reads u found h r asked a n whole fraction (AQuantity (quantity.Skip q) ∷ given) = no-size u found n whole fraction (AQuantity (quantity.Skip q)) (λ all w s. elim s [ ]) given
+font-reads u found h r asked a n whole fraction (AQuantity quantity.NotOne ∷ given) =
+    no-size u found n whole fraction (AQuantity quantity.NotOne) (λ all w s. elim s [ ]) given
+font-reads u found h r asked a n whole fraction (AQuantity (quantity.Number q) ∷ given) =
+    no-size u found n whole fraction (AQuantity (quantity.Number q)) (λ all w s. elim s [ ]) given
+font-reads u found h r asked a n whole fraction (AQuantity (quantity.Skip q) ∷ given) =
+    no-size u found n whole fraction (AQuantity (quantity.Skip q)) (λ all w s. elim s [ ]) given
 font-reads u found h r asked a n whole fraction (AToken t ∷ given) = no-size u found n whole fraction (AToken t) (λ all w s. elim s [ ]) given
 font-reads u found h r asked a n whole fraction (End ∷ given) = no-size u found n whole fraction End (λ all w s. elim s [ ]) given
 
@@ -170,8 +176,11 @@ internal-unit-reads u found h r n whole fraction [] =
     reads (record { next = AQuantity (quantity.Dimen (pos 0)); answers = a_quantity; more = k.some; worth = k.worth; is = dimen k.is })
 internal-unit-reads u found h r n whole fraction (AQuantity (quantity.Dimen v) ∷ given) =
     reads (reads-behind (behind-dimen found n whole fraction v) given _ (sized-reads u found r (xor n (is_negative v)) Finite (times whole fraction (nat_abs v)) given))
-internal-unit-reads u found h r n whole fraction (AQuantity quantity.NotOne ∷ given) = no-dimen u found n whole fraction (AQuantity quantity.NotOne) (λ all w s. elim s [ ]) given
-internal-unit-reads u found h r n whole fraction (AQuantity (quantity.Number q) ∷ given) = no-dimen u found n whole fraction (AQuantity (quantity.Number q)) (λ all w s. elim s [ ]) given
-internal-unit-reads u found h r n whole fraction (AQuantity (quantity.Skip q) ∷ given) = no-dimen u found n whole fraction (AQuantity (quantity.Skip q)) (λ all w s. elim s [ ]) given
+internal-unit-reads u found h r n whole fraction (AQuantity quantity.NotOne ∷ given) =
+    no-dimen u found n whole fraction (AQuantity quantity.NotOne) (λ all w s. elim s [ ]) given
+internal-unit-reads u found h r n whole fraction (AQuantity (quantity.Number q) ∷ given) =
+    no-dimen u found n whole fraction (AQuantity (quantity.Number q)) (λ all w s. elim s [ ]) given
+internal-unit-reads u found h r n whole fraction (AQuantity (quantity.Skip q) ∷ given) =
+    no-dimen u found n whole fraction (AQuantity (quantity.Skip q)) (λ all w s. elim s [ ]) given
 internal-unit-reads u found h r n whole fraction (AToken t ∷ given) = no-dimen u found n whole fraction (AToken t) (λ all w s. elim s [ ]) given
 internal-unit-reads u found h r n whole fraction (End ∷ given) = no-dimen u found n whole fraction End (λ all w s. elim s [ ]) given

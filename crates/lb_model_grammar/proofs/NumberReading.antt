@@ -148,7 +148,8 @@ digits-reads base K done grows no_digit goes_on behind v w a (AQuantity q ∷ gi
 digits-reads base K done grows no_digit goes_on behind v w a (End ∷ given) =
     reads-as (record { empty = λ x k. last k; into = λ all x k. last k; onto = λ all x r. elim r [ last k ↦ k ] }) given (done w (End ∷ given)) (behind v w a End given)
 
-closing-no-digit : (base : ℕ) (n : Bool) (v d : ℕ) (t : Tok) (all : List Given) (w : Worth Scanned) → digit_of base t ≡ Some d → Closing n v (AToken t ∷ all) w → ⊥
+closing-no-digit : (base : ℕ) (n : Bool) (v d : ℕ) (t : Tok) (all : List Given) (w : Worth Scanned) → digit_of base t ≡ Some d
+    → Closing n v (AToken t ∷ all) w → ⊥
 closing-no-digit base n v d t all w e (space s) = space-no-digit base d t s e
 
 -- a constant behind its first digits
@@ -172,7 +173,8 @@ behind-first base n d t e = record { into = λ all w r. first e r; onto = onto }
 no-first : (base : ℕ) (n : Bool) (w : Worth Scanned) → FirstDigit base n [] w → ⊥
 no-first base n w f = elim f [ ]
 
-no-first-at : (base : ℕ) (n : Bool) (t : Tok) → digit_of base t ≡ None → (all : List Given) (w : Worth Scanned) → FirstDigit base n (AToken t ∷ all) w → ⊥
+no-first-at : (base : ℕ) (n : Bool) (t : Tok) → digit_of base t ≡ None → (all : List Given) (w : Worth Scanned) → FirstDigit base n (AToken t ∷ all) w
+    → ⊥
 no-first-at base n t e all w (first h r) = cc
 
 first-at : (base : ℕ) → ((x : ℕ) → x ≤ base * x) → (n : Bool) (t : Tok) (given : List Given) (o : Option ℕ) → digit_of base t ≡ o
@@ -186,7 +188,8 @@ first-reads : (base : ℕ) → ((x : ℕ) → x ≤ base * x) → digit_of base 
 first-reads base grows zero n [] =
     reads (record { next = AToken (Char category.Other 48); answers = expanded; more = []; worth = worth_of n 0; is = first zero (last bare) })
 first-reads base grows zero n (AToken t ∷ given) = first-at base grows n t given (digit_of base t) refl
-first-reads base grows zero n (AQuantity q ∷ given) = none refl (nothing-begins (FirstDigit base n) (AQuantity q) given (no-first base n) (λ all w f. elim f [ ]))
+first-reads base grows zero n (AQuantity q ∷ given) =
+    none refl (nothing-begins (FirstDigit base n) (AQuantity q) given (no-first base n) (λ all w f. elim f [ ]))
 first-reads base grows zero n (End ∷ given) = none refl (nothing-begins (FirstDigit base n) End given (no-first base n) (λ all w f. elim f [ ]))
 
 -- ---- A character behind a backquote
@@ -196,7 +199,8 @@ behind-character n c t e = record { into = λ all w r. code e r; onto = onto } w
   onto : (all : List Given) (w : Worth Scanned) → Character n (AToken t ∷ all) w → Closing n c all w
   onto all w (code {c = b} h r) = let q : b ≡ c = cc in subst (λ (x : ℕ). Closing n x all w) q r
 
-a-character : (n : Bool) (c : ℕ) (t : Tok) → code_of t ≡ Some c → (given : List Given) → ReadsOr Missing (Character n) (AToken t ∷ given) (closed n c given)
+a-character : (n : Bool) (c : ℕ) (t : Tok) → code_of t ≡ Some c → (given : List Given)
+    → ReadsOr Missing (Character n) (AToken t ∷ given) (closed n c given)
 a-character n c t e given = reads (reads-behind (behind-character n c t e) given (closed n c given) (closing-reads n c c (same refl) given))
 
 no-character : (n : Bool) (t : Tok) → code_of t ≡ None → (given : List Given) → ReadsOr Missing (Character n) (AToken t ∷ given) (Wrong NumberMissing)
@@ -251,7 +255,8 @@ After Command n = Internal n
 After Point n = λ all w. ⊥
 After Other n = λ all w. ⊥
 
-after-of : (k : Class) (n : Bool) (t : Tok) → class_of t ≡ k → (all : List Given) (w : Worth Scanned) → IsNumber n (AToken t ∷ all) w → After k n all w
+after-of : (k : Class) (n : Bool) (t : Tok) → class_of t ≡ k → (all : List Given) (w : Worth Scanned) → IsNumber n (AToken t ∷ all) w
+    → After k n all w
 after-of k n t e all w (blank h r) = subst (λ (c : Class). After c n all w) (sym h ∙ e) r
 after-of k n t e all w (plus h r) = subst (λ (c : Class). After c n all w) (sym h ∙ e) r
 after-of k n t e all w (minus h r) = subst (λ (c : Class). After c n all w) (sym h ∙ e) r
@@ -261,7 +266,8 @@ after-of k n t e all w (hexadecimal h r) = subst (λ (c : Class). After c n all 
 after-of k n t e all w (a_character h r) = subst (λ (c : Class). After c n all w) (sym h ∙ e) r
 after-of k n t e all w (an_internal h r) = subst (λ (c : Class). After c n all w) (sym h ∙ e) r
 
-number-of : (k : Class) (n : Bool) (t : Tok) → class_of t ≡ k → (all : List Given) (w : Worth Scanned) → After k n all w → IsNumber n (AToken t ∷ all) w
+number-of : (k : Class) (n : Bool) (t : Tok) → class_of t ≡ k → (all : List Given) (w : Worth Scanned) → After k n all w
+    → IsNumber n (AToken t ∷ all) w
 number-of Space n t e all w r = blank e r
 number-of Plus n t e all w r = plus e r
 number-of Minus n t e all w r = minus e r
@@ -307,7 +313,8 @@ closing-one : (n : Bool) (v : ℕ) (all : List Given) (x y : Worth Scanned) → 
 closing-one n v _ x y bare bare = refl
 closing-one n v _ x y (space a) (space b) = refl
 
-digits-one : (base : ℕ) (n : Bool) (v : ℕ) (all : List Given) (x y : Worth Scanned) → Digits base (Closing n) v all x → Digits base (Closing n) v all y → x ≡ y
+digits-one : (base : ℕ) (n : Bool) (v : ℕ) (all : List Given) (x y : Worth Scanned) → Digits base (Closing n) v all x
+    → Digits base (Closing n) v all y → x ≡ y
 digits-one base n v all x y (last a) (last b) = closing-one n v all x y a b
 digits-one base n v _ x y (last a) (digit {d = d} {t = t} {given = all} h r) = absurd (closing-no-digit base n v d t all x h a)
 digits-one base n v _ x y (digit {d = d} {t = t} {given = all} h r) s =

@@ -49,7 +49,8 @@ reads-or-behind s empty given m (none f n) = none f (none-behind s empty given n
 
 -- ---- Ends
 
-of-outcome : {X : Type 0} {G : List Given → Worth X → Type 0} (given rest : List Given) (w : Worth X) → IsRead G given w rest → Reads G given (outcome w rest)
+of-outcome : {X : Type 0} {G : List Given → Worth X → Type 0} (given rest : List Given) (w : Worth X) → IsRead G given w rest
+    → Reads G given (outcome w rest)
 of-outcome given rest (Value x) r = r
 of-outcome given rest (TooLarge kind) r = record { rest = rest; is = r }
 
@@ -141,7 +142,8 @@ equal-read : {X : Type 0} {G H : List Given → Worth X → Type 0} → Equal G 
 equal-read s given w rest r =
     record { read = r.read; parts = r.parts; is = s.into r.read w r.is; longest = λ more all behind v e i. r.longest more all behind v e (s.onto all v i) }
 
-pub reads-equal : {X : Type 0} {G H : List Given → Worth X → Type 0} → Equal G H → (given : List Given) (m : Meant X) → Reads H given m → Reads G given m
+pub reads-equal : {X : Type 0} {G H : List Given → Worth X → Type 0} → Equal G H → (given : List Given) (m : Meant X) → Reads H given m
+    → Reads G given m
 reads-equal s given (Open want) r =
     record { next = r.next; answers = r.answers; more = r.more; worth = r.worth; is = s.into (given ++ r.next ∷ r.more) r.worth r.is }
 reads-equal s given (Ended x rest) r = equal-read s given (Value x) rest r
@@ -167,7 +169,8 @@ among-read {given = given} s w rest r = record {
   longest = λ more all behind v e i. r.longest more all behind v e (s.onto more all behind v e i);
 }
 
-pub reads-among : {X : Type 0} {G H : List Given → Worth X → Type 0} {given : List Given} → Among G H given → (m : Meant X) → Reads H given m → Reads G given m
+pub reads-among : {X : Type 0} {G H : List Given → Worth X → Type 0} {given : List Given} → Among G H given → (m : Meant X) → Reads H given m
+    → Reads G given m
 reads-among {given = given} s (Open want) r =
     record { next = r.next; answers = r.answers; more = r.more; worth = r.worth; is = s.into (r.next ∷ r.more) (given ++ r.next ∷ r.more) [] r.worth (sym (append-nil (given ++ r.next ∷ r.more))) r.is }
 reads-among s (Ended x rest) r = among-read s (Value x) rest r
@@ -184,7 +187,8 @@ pub reads-or-behind-full : {X : Type 0} {F : Meant X → Type 0} {G H : List Giv
 reads-or-behind-full s given empty m (reads r) = reads (reads-behind s given m r)
 reads-or-behind-full s given empty m (none f n) = none f (none-behind s (λ w i. empty w i n) given n)
 
-pub among-same : {X : Type 0} {G H : List Given → Worth X → Type 0} {g : Given} → Same G H g → ((w : Worth X) → G [] w → H [] w) → (given : List Given)
+pub among-same : {X : Type 0} {G H : List Given → Worth X → Type 0} {g : Given} → Same G H g → ((w : Worth X) → G [] w → H [] w)
+    → (given : List Given)
     → Among G H (g ∷ given)
 among-same {X} {G} {H} {g} s back given = record { into = into; onto = onto } where
   into : (more all behind : List Given) (w : Worth X) → g ∷ given ++ more ≡ all ++ behind → H all w → G all w

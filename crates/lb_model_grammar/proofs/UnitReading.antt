@@ -28,12 +28,14 @@ use Rattle.lb_model_grammar.proofs.WordReading.{behind-letter, letters-spelled, 
 -- its letters stand first, and this behind them
 pub data Front : List ℕ → List Given → List Given → Type 0 where
   done : {given : List Given} → Front [] given given
-  also : {c : ℕ} {word : List ℕ} {t : Tok} {given rest : List Given} → is_letter c t ≡ true → Front word given rest → Front (c ∷ word) (AToken t ∷ given) rest
+  also : {c : ℕ} {word : List ℕ} {t : Tok} {given rest : List Given} → is_letter c t ≡ true → Front word given rest
+      → Front (c ∷ word) (AToken t ∷ given) rest
 
 -- all of the list are its letters, and these are left
 pub data Left : List ℕ → List Given → List ℕ → Type 0 where
   all_left : {word : List ℕ} → Left word [] word
-  also : {c : ℕ} {word left : List ℕ} {t : Tok} {given : List Given} → is_letter c t ≡ true → Left word given left → Left (c ∷ word) (AToken t ∷ given) left
+  also : {c : ℕ} {word left : List ℕ} {t : Tok} {given : List Given} → is_letter c t ≡ true → Left word given left
+      → Left (c ∷ word) (AToken t ∷ given) left
 
 -- another thing stands in place of a letter
 pub data Differs : List ℕ → List Given → Type 0 where
@@ -45,7 +47,8 @@ pub data Differs : List ℕ → List Given → Type 0 where
 pub data Fate (word : List ℕ) (given : List Given) : Type 0 where
   short : (c : ℕ) (left : List ℕ) → Left word given (c ∷ left)
       → ((f : List Given → Meant Scanned) (m : Meant Scanned) → letters word f m given ≡ Open want.Expanded) → Fate word given
-  whole : (rest : List Given) → Front word given rest → ((f : List Given → Meant Scanned) (m : Meant Scanned) → letters word f m given ≡ f rest) → Fate word given
+  whole : (rest : List Given) → Front word given rest → ((f : List Given → Meant Scanned) (m : Meant Scanned) → letters word f m given ≡ f rest)
+      → Fate word given
   differs : Differs word given → ((f : List Given → Meant Scanned) (m : Meant Scanned) → letters word f m given ≡ m) → Fate word given
 
 fate-also : (c : ℕ) (word : List ℕ) (t : Tok) (given : List Given) → is_letter c t ≡ true → Fate word given → Fate (c ∷ word) (AToken t ∷ given)
@@ -53,7 +56,8 @@ fate-also c word t given e (short d left l s) = short d left (also e l) (λ f m.
 fate-also c word t given e (whole rest l s) = whole rest (also e l) (λ f m. ap (λ (b : Bool). if b then letters word f m given else m) e ∙ s f m)
 fate-also c word t given e (differs l s) = differs (also e l) (λ f m. ap (λ (b : Bool). if b then letters word f m given else m) e ∙ s f m)
 
-fate-at : (c : ℕ) (word : List ℕ) (t : Tok) (given : List Given) → Fate word given → (b : Bool) → is_letter c t ≡ b → Fate (c ∷ word) (AToken t ∷ given)
+fate-at : (c : ℕ) (word : List ℕ) (t : Tok) (given : List Given) → Fate word given → (b : Bool) → is_letter c t ≡ b
+    → Fate (c ∷ word) (AToken t ∷ given)
 fate-at c word t given l true e = fate-also c word t given e l
 fate-at c word t given l false e = differs (token e) (λ f m. ap (λ (b : Bool). if b then letters word f m given else m) e)
 
@@ -137,7 +141,8 @@ table-differs K word [] given w e o = elim o [ ]
 
 -- ---- Lists that begin alike
 
-pub front-differs : (word : List ℕ) (given rest all more behind : List Given) → Front word given rest → Differs word all → given ++ more ≡ all ++ behind → ⊥
+pub front-differs : (word : List ℕ) (given rest all more behind : List Given) → Front word given rest → Differs word all
+    → given ++ more ≡ all ++ behind → ⊥
 front-differs _ _ _ all more behind done d q = elim d [ ]
 front-differs _ _ rest all more behind (also {t = t} {given = given} e l) (token {t = s} {given = one} h) q =
     let same : AToken t ≡ AToken s = cc in cc
@@ -149,7 +154,8 @@ front-differs _ _ rest all more behind (also {word = word} {t = t} {given = give
 
 pub letters-differs : (K : Grammar) (word : List ℕ) (given all more behind : List Given) (w : Worth Scanned) → Differs word given
     → Letters K word all w → given ++ more ≡ all ++ behind → ⊥
-letters-differs K _ _ _ more behind w (token {t = s} {given = one} h) (letter {t = t} {given = given} e l) q = let same : AToken t ≡ AToken s = cc in cc
+letters-differs K _ _ _ more behind w (token {t = s} {given = one} h) (letter {t = t} {given = given} e l) q =
+    let same : AToken t ≡ AToken s = cc in cc
 letters-differs K _ _ _ more behind w quantity (letter e l) q = cc
 letters-differs K _ _ _ more behind w end (letter e l) q = cc
 letters-differs K _ _ _ more behind w (also {t = s} {given = one} h d) (letter {word = word} {t = t} {given = given} e l) q =
@@ -160,7 +166,8 @@ letters-differs K _ _ _ more behind w (also {t = s} {given = one} h d) (letter {
 
 table-at : (F : Meant Scanned → Type 0) (K : Unit_of → List Given → Worth Scanned → Type 0) (found : Unit_of → List Given → Meant Scanned) (u : List ℕ × Unit_of)
     (table : List (List ℕ × Unit_of)) (given some : List Given) (worth : Worth Scanned) (m : Meant Scanned) → K u.1 some worth
-    → ((rest : List Given) → ReadsOr F (K u.1) rest (found u.1 rest)) → apart_from u.0 table ≡ true → ReadsOr F (OneOf K table) given m → Fate u.0 given
+    → ((rest : List Given) → ReadsOr F (K u.1) rest (found u.1 rest)) → apart_from u.0 table ≡ true → ReadsOr F (OneOf K table) given m
+    → Fate u.0 given
     → ReadsOr F (OneOf K (u ∷ table)) given (letters u.0 (found u.1) m given)
 table-at F K found u table given some worth m k behind a r (short c left l s) =
     subst (λ (x : Meant Scanned). ReadsOr F (OneOf K (u ∷ table)) given x) (sym (s (found u.1) m))

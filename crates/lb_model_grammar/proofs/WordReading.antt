@@ -137,7 +137,8 @@ Means c word given = keyword (c ∷ word) (Ended (scanned.Found true)) (Ended (s
 pub word-read : (c : ℕ) (word : List ℕ) (given rest : List Given) → Means c word given ≡ Ended (scanned.Found true) rest
     → IsRead (Word c word) given (Value (scanned.Found true)) rest
 word-read c word given rest e = by (word-reads c word given given) where
-  by : ReadsOr (λ m. m ≡ Ended (scanned.Found false) given) (Word c word) given (Means c word given) → IsRead (Word c word) given (Value (scanned.Found true)) rest
+  by : ReadsOr (λ m. m ≡ Ended (scanned.Found false) given) (Word c word) given (Means c word given)
+      → IsRead (Word c word) given (Value (scanned.Found true)) rest
   by (reads r) = subst (λ (m : Meant Scanned). Reads (Word c word) given m) e r
   by (none m n) = cc
 
@@ -158,7 +159,8 @@ word-goes_on c word given want e = by (word-reads c word given given) where
   by (reads r) = subst (λ (m : Meant Scanned). Reads (Word c word) given m) e r
   by (none m n) = cc
 
-pub word-missing : (c : ℕ) (word : List ℕ) (given rest : List Given) → Means c word given ≡ Ended (scanned.Found false) rest → NoneBegins (Word c word) given
+pub word-missing : (c : ℕ) (word : List ℕ) (given rest : List Given) → Means c word given ≡ Ended (scanned.Found false) rest
+    → NoneBegins (Word c word) given
 word-missing c word given rest e = by (word-reads c word given given) where
   by : ReadsOr (λ m. m ≡ Ended (scanned.Found false) given) (Word c word) given (Means c word given) → NoneBegins (Word c word) given
   by (none m n) = n

@@ -35,7 +35,8 @@ pub record IsDelimited (long : Bool) (delimiter : List Tok) (given : List Given)
   pub parts : given ≡ before body (before delimiter rest)
   pub balanced : IsBalanced body
   pub fits : Fits long body
-  pub shortest : (other : List Tok) (behind : List Given) → IsBalanced other → given ≡ before other (before delimiter behind) → length body ≤ length other
+  pub shortest : (other : List Tok) (behind : List Given) → IsBalanced other → given ≡ before other (before delimiter behind)
+      → length body ≤ length other
 
 -- Whatever comes behind what was given, each balanced list before the delimiter that begins there has more than so many tokens
 abbrev pub OnlyLonger : Bool → List Tok → List Given → ℕ → Type 0
@@ -44,7 +45,8 @@ OnlyLonger long delimiter given most =
 
 -- and so none begins there
 abbrev pub NoneDelimited : Bool → List Tok → List Given → Type 0
-NoneDelimited long delimiter given = (body : List Tok) (more behind : List Given) → IsBalanced body → Fits long body → given ++ more ≡ before body (before delimiter behind) → ⊥
+NoneDelimited long delimiter given =
+    (body : List Tok) (more behind : List Given) → IsBalanced body → Fits long body → given ++ more ≡ before body (before delimiter behind) → ⊥
 
 -- what was given ends, or a paragraph that may not, behind these tokens
 pub data Stops (long : Bool) : List Given → Type 0 where
@@ -73,10 +75,12 @@ pub record ClosesAtBase (given : List Given) : Type 0 where
 
 -- what was given begins with an argument without delimiter: spaces, and then one token, or one group without its braces
 pub data IsUndelimited (long : Bool) : List Given → List Tok → List Given → Type 0 where
-  blank : {t : Tok} {given rest : List Given} {arg : List Tok} → is_space t ≡ true → IsUndelimited long given arg rest → IsUndelimited long (AToken t ∷ given) arg rest
+  blank : {t : Tok} {given rest : List Given} {arg : List Tok} → is_space t ≡ true → IsUndelimited long given arg rest
+      → IsUndelimited long (AToken t ∷ given) arg rest
   token : {t : Tok} {rest : List Given} → is_space t ≡ false → opens t ≡ false → closes t ≡ false → is_barred long t ≡ false
       → IsUndelimited long (AToken t ∷ rest) (t ∷ []) rest
-  group : {opening : Tok} (closing : Tok) {arg : List Tok} {given rest : List Given} → opens opening ≡ true → closes closing ≡ true → IsBalanced arg → Fits long arg
+  group : {opening : Tok} (closing : Tok) {arg : List Tok} {given rest : List Given} → opens opening ≡ true → closes closing ≡ true → IsBalanced arg
+      → Fits long arg
       → given ≡ before arg (AToken closing ∷ rest) → IsUndelimited long (AToken opening ∷ given) arg rest
 
 -- spaces, and then a closing brace

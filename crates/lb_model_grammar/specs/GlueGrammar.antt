@@ -30,14 +30,18 @@ pub data Fils (behind : Order → List Given → Worth Scanned → Type 0) : Ord
   fil : {given : List Given} {w : Worth Scanned} → begins_l given ≡ false → behind Fil given w → Fils behind Fil given w
   fill : {given : List Given} {w : Worth Scanned} → begins_l given ≡ false → behind Fill given w → Fils behind Fill given w
   filll : {given : List Given} {w : Worth Scanned} → behind Filll given w → Fils behind Filll given w
-  second : {t : Tok} {given : List Given} {w : Worth Scanned} → is_letter 108 t ≡ true → Fils behind Fill given w → Fils behind Fil (AToken t ∷ given) w
-  third : {t : Tok} {given : List Given} {w : Worth Scanned} → is_letter 108 t ≡ true → Fils behind Filll given w → Fils behind Fill (AToken t ∷ given) w
+  second : {t : Tok} {given : List Given} {w : Worth Scanned} → is_letter 108 t ≡ true → Fils behind Fill given w
+      → Fils behind Fil (AToken t ∷ given) w
+  third : {t : Tok} {given : List Given} {w : Worth Scanned} → is_letter 108 t ≡ true → Fils behind Filll given w
+      → Fils behind Fill (AToken t ∷ given) w
 
 -- an infinite unit, or one of a dimension
 pub data GlueUnit (found : BySize) (negative : Bool) (whole fraction : ℕ) : List Given → Worth Scanned → Type 0 where
-  infinite : {given : List Given} {w : Worth Scanned} → Letters (Fils (λ order. InUnit found negative whole fraction (Infinite order)) Fil) (codes "fil") given w
+  infinite : {given : List Given} {w : Worth Scanned}
+      → Letters (Fils (λ order. InUnit found negative whole fraction (Infinite order)) Fil) (codes "fil") given w
       → GlueUnit found negative whole fraction given w
-  finite : {given : List Given} {w : Worth Scanned} → OneOf (InUnit found negative whole fraction) units given w → GlueUnit found negative whole fraction given w
+  finite : {given : List Given} {w : Worth Scanned} → OneOf (InUnit found negative whole fraction) units given w
+      → GlueUnit found negative whole fraction given w
 
 -- ---- Glue
 
@@ -57,7 +61,8 @@ shrink_by g negative q = λ all w. ⊥
 -- what glue shrinks by, or nothing
 pub data Shrink (g : Glue) : List Given → Worth Scanned → Type 0 where
   nothing : Shrink g [] (Value (Skip g))
-  minus : {given : List Given} {w : Worth Scanned} → Keyword (IsLength (GlueUnit (shrink_found g)) (shrink_found g) (shrink_by g) false) (codes "minus") given w
+  minus : {given : List Given} {w : Worth Scanned}
+      → Keyword (IsLength (GlueUnit (shrink_found g)) (shrink_found g) (shrink_by g) false) (codes "minus") given w
       → Shrink g given w
 
 abbrev pub stretch_found : Glue → Order → ℤ → List Given → Worth Scanned → Type 0
@@ -70,7 +75,8 @@ stretch_by g negative q = λ all w. ⊥
 -- what it stretches by, or nothing, and then what it shrinks by
 pub data Stretch (g : Glue) : List Given → Worth Scanned → Type 0 where
   nothing : {given : List Given} {w : Worth Scanned} → Shrink g given w → Stretch g given w
-  plus : {given : List Given} {w : Worth Scanned} → Keyword (IsLength (GlueUnit (stretch_found g)) (stretch_found g) (stretch_by g) false) (codes "plus") given w
+  plus : {given : List Given} {w : Worth Scanned}
+      → Keyword (IsLength (GlueUnit (stretch_found g)) (stretch_found g) (stretch_by g) false) (codes "plus") given w
       → Stretch g given w
 
 abbrev pub glue_found : Order → ℤ → List Given → Worth Scanned → Type 0

@@ -44,7 +44,8 @@ pub data Spaced (behind : Grammar) : List Given → Worth Scanned → Type 0 whe
 
 -- a size below 2 ^ 30 with its sign, and what stands behind it
 pub data Sized (found : BySize) (negative : Bool) (order : Order) (size : ℕ) : List Given → Worth Scanned → Type 0 where
-  small : {given : List Given} {w : Worth Scanned} → nat_lt size 1073741824 ≡ true → found order (signed negative (pos size)) given w → Sized found negative order size given w
+  small : {given : List Given} {w : Worth Scanned} → nat_lt size 1073741824 ≡ true → found order (signed negative (pos size)) given w
+      → Sized found negative order size given w
   large : nat_lt size 1073741824 ≡ false → Sized found negative order size [] (TooLarge DimenTooLarge)
 
 -- an internal dimension, so many times
@@ -111,7 +112,8 @@ pub data PointOrUnit (in_units : ByDecimal) (found : BySize) (negative : Bool) (
 
 -- a whole part reaches 2147483647. No digit stands behind its last one
 pub data BehindWhole (in_units : ByDecimal) (found : BySize) (negative : Bool) (whole : ℕ) : List Given → Worth Scanned → Type 0 where
-  small : {given : List Given} {w : Worth Scanned} → nat_lt whole 2147483648 ≡ true → begins_digit given ≡ false → PointOrUnit in_units found negative whole given w
+  small : {given : List Given} {w : Worth Scanned} → nat_lt whole 2147483648 ≡ true → begins_digit given ≡ false
+      → PointOrUnit in_units found negative whole given w
       → BehindWhole in_units found negative whole given w
   large : nat_lt whole 2147483648 ≡ false → BehindWhole in_units found negative whole [] (TooLarge NumberTooBig)
 
@@ -121,12 +123,18 @@ pub data Alone (alone : ByQuantity) (negative : Bool) : List Given → Worth Sca
 
 -- a dimension in these units, where an odd number of minus signs stands before it or not
 pub data IsLength (in_units : ByDecimal) (found : BySize) (alone : ByQuantity) : Bool → List Given → Worth Scanned → Type 0 where
-  blank : {n : Bool} {t : Tok} {given : List Given} {w : Worth Scanned} → class_of t ≡ Space → IsLength in_units found alone n given w → IsLength in_units found alone n (AToken t ∷ given) w
-  plus : {n : Bool} {t : Tok} {given : List Given} {w : Worth Scanned} → class_of t ≡ Plus → IsLength in_units found alone n given w → IsLength in_units found alone n (AToken t ∷ given) w
-  minus : {n : Bool} {t : Tok} {given : List Given} {w : Worth Scanned} → class_of t ≡ Minus → IsLength in_units found alone (not n) given w → IsLength in_units found alone n (AToken t ∷ given) w
-  decimal : {n : Bool} {d : ℕ} {t : Tok} {given : List Given} {w : Worth Scanned} → class_of t ≡ Digit d → Digits 10 (BehindWhole in_units found n) d given w → IsLength in_units found alone n (AToken t ∷ given) w
-  fraction : {n : Bool} {t : Tok} {given : List Given} {w : Worth Scanned} → class_of t ≡ Point → Fraction in_units found n 0 [] given w → IsLength in_units found alone n (AToken t ∷ given) w
-  internal : {n : Bool} {t : Tok} {given : List Given} {w : Worth Scanned} → class_of t ≡ Command → Alone alone n given w → IsLength in_units found alone n (AToken t ∷ given) w
+  blank : {n : Bool} {t : Tok} {given : List Given} {w : Worth Scanned} → class_of t ≡ Space → IsLength in_units found alone n given w
+      → IsLength in_units found alone n (AToken t ∷ given) w
+  plus : {n : Bool} {t : Tok} {given : List Given} {w : Worth Scanned} → class_of t ≡ Plus → IsLength in_units found alone n given w
+      → IsLength in_units found alone n (AToken t ∷ given) w
+  minus : {n : Bool} {t : Tok} {given : List Given} {w : Worth Scanned} → class_of t ≡ Minus → IsLength in_units found alone (not n) given w
+      → IsLength in_units found alone n (AToken t ∷ given) w
+  decimal : {n : Bool} {d : ℕ} {t : Tok} {given : List Given} {w : Worth Scanned} → class_of t ≡ Digit d
+      → Digits 10 (BehindWhole in_units found n) d given w → IsLength in_units found alone n (AToken t ∷ given) w
+  fraction : {n : Bool} {t : Tok} {given : List Given} {w : Worth Scanned} → class_of t ≡ Point → Fraction in_units found n 0 [] given w
+      → IsLength in_units found alone n (AToken t ∷ given) w
+  internal : {n : Bool} {t : Tok} {given : List Given} {w : Worth Scanned} → class_of t ≡ Command → Alone alone n given w
+      → IsLength in_units found alone n (AToken t ∷ given) w
 
 -- ---- A dimension by itself
 

@@ -52,9 +52,15 @@ pub data Internal : Bool → List Given → Worth Scanned → Type 0 where
 pub data IsNumber : Bool → List Given → Worth Scanned → Type 0 where
   blank : {n : Bool} {t : Tok} {given : List Given} {w : Worth Scanned} → class_of t ≡ Space → IsNumber n given w → IsNumber n (AToken t ∷ given) w
   plus : {n : Bool} {t : Tok} {given : List Given} {w : Worth Scanned} → class_of t ≡ Plus → IsNumber n given w → IsNumber n (AToken t ∷ given) w
-  minus : {n : Bool} {t : Tok} {given : List Given} {w : Worth Scanned} → class_of t ≡ Minus → IsNumber (not n) given w → IsNumber n (AToken t ∷ given) w
-  decimal : {n : Bool} {d : ℕ} {t : Tok} {given : List Given} {w : Worth Scanned} → class_of t ≡ Digit d → Digits 10 (Closing n) d given w → IsNumber n (AToken t ∷ given) w
-  octal : {n : Bool} {t : Tok} {given : List Given} {w : Worth Scanned} → class_of t ≡ Octal → FirstDigit 8 n given w → IsNumber n (AToken t ∷ given) w
-  hexadecimal : {n : Bool} {t : Tok} {given : List Given} {w : Worth Scanned} → class_of t ≡ Hexadecimal → FirstDigit 16 n given w → IsNumber n (AToken t ∷ given) w
-  character : {n : Bool} {t : Tok} {given : List Given} {w : Worth Scanned} → class_of t ≡ Quote → Character n given w → IsNumber n (AToken t ∷ given) w
-  internal : {n : Bool} {t : Tok} {given : List Given} {w : Worth Scanned} → class_of t ≡ Command → Internal n given w → IsNumber n (AToken t ∷ given) w
+  minus : {n : Bool} {t : Tok} {given : List Given} {w : Worth Scanned} → class_of t ≡ Minus → IsNumber (not n) given w
+      → IsNumber n (AToken t ∷ given) w
+  decimal : {n : Bool} {d : ℕ} {t : Tok} {given : List Given} {w : Worth Scanned} → class_of t ≡ Digit d → Digits 10 (Closing n) d given w
+      → IsNumber n (AToken t ∷ given) w
+  octal : {n : Bool} {t : Tok} {given : List Given} {w : Worth Scanned} → class_of t ≡ Octal → FirstDigit 8 n given w
+      → IsNumber n (AToken t ∷ given) w
+  hexadecimal : {n : Bool} {t : Tok} {given : List Given} {w : Worth Scanned} → class_of t ≡ Hexadecimal → FirstDigit 16 n given w
+      → IsNumber n (AToken t ∷ given) w
+  character : {n : Bool} {t : Tok} {given : List Given} {w : Worth Scanned} → class_of t ≡ Quote → Character n given w
+      → IsNumber n (AToken t ∷ given) w
+  internal : {n : Bool} {t : Tok} {given : List Given} {w : Worth Scanned} → class_of t ≡ Command → Internal n given w
+      → IsNumber n (AToken t ∷ given) w
