@@ -1,10 +1,9 @@
 -- What is read of a decimal and its unit, and of a dimension as a whole.
-use Rattle.std.proofs.Common.{◌≡◌, ◌∙◌, ◌++◌, ◌+◌, ◌*◌, ◌≤◌, Bool, true, false, not, ℕ, ℤ, pos, nat_lt, List, [], ◌∷◌, length, Some, None, refl, ap, sym, subst, arith, inl, inr, take}
+use Rattle.std.proofs.Common.{◌≡◌, ◌∙◌, ◌++◌, ◌+◌, ◌*◌, ◌≤◌, Bool, true, false, not, ℕ, pos, nat_lt, List, [], ◌∷◌, length, Some, None, refl, ap, sym, subst, arith, inl, inr, take}
 use Rattle.std.specs.Prelude.{Option, if◌then◌else◌}
 use Rattle.std.proofs.lemmas.Bool.{le-ltb, ltb-false}
 use Rattle.lb_base.specs.Decimals.{fraction_from_digits}
 use Rattle.lb_base.specs.declared.fault.Kind.TheVariants.{NumberTooBig, UnitMissing}
-use Rattle.lb_base.specs.declared.glue.Order.{Order}
 use Rattle.lb_base.specs.declared.token.Category.TheVariants as category
 use Rattle.lb_base.specs.declared.token.Tok.{Tok}
 use Rattle.lb_base.specs.declared.token.Tok.TheVariants.{Char}
@@ -64,10 +63,10 @@ unit-word : (table : ByDecimal) (found : BySize) (n : Bool) (whole fraction : �
     → Same (UnitOf table found n whole fraction) (table n whole fraction) (AToken t)
 unit-word table found n whole fraction t e filled =
     record { empty = λ w o. absurd (filled w o); into = λ all w o. unit_letters e o; onto = onto } where
-  onto : (all : List Given) (w : Worth Scanned) → UnitOf table found n whole fraction (AToken t ∷ all) w → table n whole fraction (AToken t ∷ all) w
-  onto all w (unit_blank h r) = let q : true ≡ false = sym e ∙ ap begins_unit h in cc
-  onto all w (unit_internal h r) = let q : true ≡ false = sym e ∙ ap begins_unit h in cc
-  onto all w (unit_letters h o) = o
+      onto : (all : List Given) (w : Worth Scanned) → UnitOf table found n whole fraction (AToken t ∷ all) w → table n whole fraction (AToken t ∷ all) w
+      onto all w (unit_blank h r) = let q : true ≡ false = sym e ∙ ap begins_unit h in cc
+      onto all w (unit_internal h r) = let q : true ≡ false = sym e ∙ ap begins_unit h in cc
+      onto all w (unit_letters h o) = o
 
 word-unit : (u : Uses) (table : ByDecimal) (found : BySize) (alone : ByQuantity) → Behind u table found alone
     → (n : Bool) (whole fraction : ℕ) (t : Tok) (given : List Given) → begins_unit (class_of t) ≡ true
@@ -172,9 +171,9 @@ without-point : (table : ByDecimal) (found : BySize) (n : Bool) (whole : ℕ) (t
     → Same (PointOrUnit table found n whole) (UnitOf table found n whole 0) (AToken t)
 without-point table found n whole t e =
     record { empty = λ w r. absurd (unit-not-empty table found n whole 0 w r); into = λ all w r. no_point e r; onto = onto } where
-  onto : (all : List Given) (w : Worth Scanned) → PointOrUnit table found n whole (AToken t ∷ all) w → UnitOf table found n whole 0 (AToken t ∷ all) w
-  onto all w (a_point h r) = cc
-  onto all w (no_point h r) = r
+      onto : (all : List Given) (w : Worth Scanned) → PointOrUnit table found n whole (AToken t ∷ all) w → UnitOf table found n whole 0 (AToken t ∷ all) w
+      onto all w (a_point h r) = cc
+      onto all w (no_point h r) = r
 
 point-at : (u : Uses) (table : ByDecimal) (found : BySize) (alone : ByQuantity) → Behind u table found alone
     → (n : Bool) (whole : ℕ) (t : Tok) (given : List Given) (p : Bool) → is_other 46 t ≡ p

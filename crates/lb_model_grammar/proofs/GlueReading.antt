@@ -67,11 +67,11 @@ or-nothing G H x given (Wrong kind) (reads r) into onto empty =
         by (inr h) = r.is.longest more all behind w e h
 or-nothing G H x given m (none f n) into onto empty =
     subst (λ (k : Meant Scanned). Reads G given k) (sym f) (record { read = []; parts = refl; is = empty; longest = longest }) where
-  longest : (more all behind : List Given) (w : Worth Scanned) → given ++ more ≡ all ++ behind → G all w → length all ≤ 0
-  longest more all behind w e i = by (onto more all behind w e i) where
-    by : (length all ≤ 0) ⊎ H all w → length all ≤ 0
-    by (inl l) = l
-    by (inr h) = absurd (n more all behind w e h)
+      longest : (more all behind : List Given) (w : Worth Scanned) → given ++ more ≡ all ++ behind → G all w → length all ≤ 0
+      longest more all behind w e i = by (onto more all behind w e i) where
+        by : (length all ≤ 0) ⊎ H all w → length all ≤ 0
+        by (inl l) = l
+        by (inr h) = absurd (n more all behind w e h)
 
 -- both kinds of lack are one
 lack : (u : Uses) (x : Scanned) (given : List Given) (G : Grammar) (some : List Given) (m : Meant Scanned)

@@ -339,16 +339,16 @@ group-stops-at : (long : Bool) (level : ℕ) (body : List Tok) (t : Tok) (given 
     → Stands long t → group_as (brace_of long t) level body t (λ l b. group long l b given) given ≡ Wrong Runaway → Stops long (AToken t ∷ given)
 group-stops-at long level body t given ih (opening k o l f) e =
     stop-then long body t given (λ b. group long (suc level) b given) (sym (ap (λ (x : Brace). group_as x level body t (λ l b. group long l b given) given) k) ∙ e)
-      (ih (suc level) (body ++ t ∷ []))
+    (ih (suc level) (body ++ t ∷ []))
 group-stops-at long zero body t given ih (closing k c l f) e =
     let q : Ended body given ≡ Wrong Runaway = sym (ap (λ (x : Brace). group_as x 0 body t (λ l b. group long l b given) given) k) ∙ e in cc
 group-stops-at long (suc level) body t given ih (closing k c l f) e =
     stop-then long body t given (λ b. group long level b given) (sym (ap (λ (x : Brace). group_as x (suc level) body t (λ l b. group long l b given) given) k) ∙ e)
-      (ih level (body ++ t ∷ []))
+    (ih level (body ++ t ∷ []))
 group-stops-at long level body t given ih (paragraph k f) e = stop_paragraph f
 group-stops-at long level body t given ih (plain k o c l f) e =
     stop-then long body t given (λ b. group long level b given) (sym (ap (λ (x : Brace). group_as x level body t (λ l b. group long l b given) given) k) ∙ e)
-      (ih level (body ++ t ∷ []))
+    (ih level (body ++ t ∷ []))
 
 group-stops : (long : Bool) (level : ℕ) (body : List Tok) (given : List Given) → group long level body given ≡ Wrong Runaway → Stops long given
 group-stops long level body [] e = cc
@@ -365,9 +365,9 @@ undelimited-stops-at long t given ih (closing k c l f) e =
 undelimited-stops-at long t given ih (paragraph k f) e = stop_paragraph f
 undelimited-stops-at long t given ih (plain k o c l f) e =
     by (is_space t) (sym (ap (λ (x : Brace). undelimited_as x long t (undelimited long given) given) k) ∙ e) where
-  by : (b : Bool) → (if b then undelimited long given else Ended (t ∷ []) given) ≡ Wrong Runaway → Stops long (AToken t ∷ given)
-  by true q = stop_later (ih q)
-  by false q = cc
+      by : (b : Bool) → (if b then undelimited long given else Ended (t ∷ []) given) ≡ Wrong Runaway → Stops long (AToken t ∷ given)
+      by true q = stop_later (ih q)
+      by false q = cc
 
 pub undelimited-stops : (long : Bool) (given : List Given) → undelimited long given ≡ Wrong Runaway → Stops long given
 undelimited-stops long [] e = cc
@@ -404,9 +404,9 @@ closes-first-at long t given ih (paragraph k f) e =
     let q : Wrong Runaway ≡ Wrong UseMismatch = sym (ap (λ (x : Brace). undelimited_as x long t (undelimited long given) given) k) ∙ e in cc
 closes-first-at long t given ih (plain k o c l f) e =
     by (is_space t) refl (sym (ap (λ (x : Brace). undelimited_as x long t (undelimited long given) given) k) ∙ e) where
-  by : (b : Bool) → is_space t ≡ b → (if b then undelimited long given else Ended (t ∷ []) given) ≡ Wrong UseMismatch → ClosesFirst (AToken t ∷ given)
-  by true s q = first_blank s (ih q)
-  by false s q = cc
+      by : (b : Bool) → is_space t ≡ b → (if b then undelimited long given else Ended (t ∷ []) given) ≡ Wrong UseMismatch → ClosesFirst (AToken t ∷ given)
+      by true s q = first_blank s (ih q)
+      by false s q = cc
 
 pub closes-first : (long : Bool) (given : List Given) → undelimited long given ≡ Wrong UseMismatch → ClosesFirst given
 closes-first long [] e = cc

@@ -470,9 +470,11 @@ each-number all w is = by (number false (all ++ End ∷ [])) (number-reads false
       let l : length all ≤ length r.read = r.longest [] all (End ∷ []) w (append-nil (all ++ End ∷ [])) is in
       let s = all-read r.read all rest (number-no-end false r.read x r.is) l r.parts in
       (number-one false all x w (subst (λ (k : List Given). IsNumber false k x) s.0 r.is) is, s.1)
+
   inside : (g : Given) (more : List Given) (x : Worth Scanned) → IsNumber false ((all ++ End ∷ []) ++ g ∷ more) x → ⊥
   inside g more x i =
       end-inside all (g ∷ more) (subst NoEnd (append_assoc all (End ∷ []) (g ∷ more)) (number-no-end false ((all ++ End ∷ []) ++ g ∷ more) x i))
+
   by : (m : Meant Scanned) → ReadsOr Missing (IsNumber false) (all ++ End ∷ []) m → m ≡ outcome w (End ∷ [])
   by m (none f n) = absurd (n [] all (End ∷ []) w (append-nil (all ++ End ∷ [])) is)
   by (Open want) (reads r) = absurd (inside r.next r.more r.worth r.is)
