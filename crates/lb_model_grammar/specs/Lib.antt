@@ -1,8 +1,15 @@
+pub mod ArgumentGrammar
 pub mod Arguments
 pub mod Conditionals
 pub mod Dimensions
+pub mod GlueGrammar
+pub mod LengthGrammar
+pub mod NumberGrammar
 pub mod Numbers
 pub mod Printed
 pub mod Same
 pub mod Scans
+pub mod WordGrammar
 pub mod Words
+pub mod Worked
+pub mod Written

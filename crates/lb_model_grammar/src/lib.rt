@@ -4,6 +4,8 @@
 pub mod class;
 pub mod condition;
 pub mod given;
+pub mod laws;
+pub mod rows;
 
 pub use class::{Brace, Class};
 pub use condition::{Branch, CondKind, Mark, Rel, Sought, Stopper};

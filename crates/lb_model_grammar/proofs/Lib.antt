@@ -1,0 +1,13 @@
+pub mod ArgumentReading
+pub mod DecimalReading
+pub mod DimensionReading
+pub mod FilReading
+pub mod GlueReading
+pub mod GroupReading
+pub mod KeywordPlaces
+pub mod LengthReading
+pub mod NumberReading
+pub mod OneWorth
+pub mod ReadingSteps
+pub mod UnitReading
+pub mod WordReading
