@@ -4,3 +4,4 @@ pub mod UnitLemmas
 pub mod FractionLemmas
 pub mod StageLemmas
 pub mod OpenLemmas
+pub mod StandsLemmas

@@ -283,6 +283,7 @@ fn font_unit(decimal: Decimal, asked: Want, given: &Given) -> Turn
 // ---- Decimals
 
 // What stands behind the whole part of a decimal.
+#[tactic(auto, using(crate::proofs::FractionLemmas::no_digits))]
 fn point_or_unit(infinite: bool, negative: bool, whole: u32, given: &Given) -> Turn
     ensures { (u : Uses) → u.units ≡ units_in infinite → (more : List AGiven) →
         turned_length u result given.now more ≡ point_or_unit u negative whole (given.now ∷ more) }
@@ -336,7 +337,7 @@ fn fraction(infinite: bool, negative: bool, whole: u32, digits: Fraction, given:
         Given::Tok(tok) => match digit_of(10, tok) {
             Some(digit) => Turn::Goes(Length::Fraction(negative, whole, digits.and(digit))),
             None => {
-                let part = digits.value();
+                let part = digits.nearest();
                 let decimal = Decimal {
                     negative,
                     whole,
@@ -352,6 +353,7 @@ fn fraction(infinite: bool, negative: bool, whole: u32, digits: Fraction, given:
 
 // ---- The beginning
 
+#[tactic(auto, using(crate::proofs::FractionLemmas::no_digits))]
 fn sign(negative: bool, tok: &Tok) -> Turn
     ensures { (u : Uses) (more : List AGiven) → turned_length u result (AGiven.Tok tok.now) more ≡ length_after u (Length.Signs negative) (AGiven.Tok tok.now ∷ more) }
 {

@@ -1,48 +1,47 @@
 //! The digits behind the point of a decimal.
-ghost use Rattle.std.specs.Prelude.{◌≡◌, ◌≤◌, ◌++◌, ◌∷◌, [], All, take};
-ghost use Rattle.lb_base.specs.Decimals.{fraction_from_digits};
+ghost use Rattle.std.specs.Prelude.{◌≡◌, ◌≤◌, ◌<◌, ◌+◌, ◌*◌, ◌/◌, ◌^◌, nat_le, if◌then◌else◌};
 
-use lb_base::round_decimals;
+/// Where so many parts are counted no more digits count, which is so behind the first 17.
+const FULL: u64 = 100_000_000_000_000_000;
 
-/// Digits, of which the first 17 count.
+/// Digits as a number, and how many parts it counts in: a power of 10.
 #[derive(Clone, Copy)]
 pub(crate) struct Fraction {
-    digits: [u8; 17],
-    count: usize,
-    ghost short: { count ≤ 17 },
-    ghost decimal: { All (λ d. d ≤ 9) (take count digits) },
+    scale: u64,
+    value: u64,
+    ghost below: { value < scale },
+    ghost bounded: { scale ≤ 10 ^ 18 },
 }
 
 impl Fraction {
     pub(crate) fn new() -> Fraction
-        ensures { take result.count result.digits ≡ [] }
+        ensures scale { result.scale ≡ 1 }
+        ensures value { result.value ≡ 0 }
     {
-        Fraction {
-            digits: [0; 17],
-            count: 0,
-        }
+        Fraction { scale: 1, value: 0 }
     }
 
     /// One digit more.
     pub(crate) fn and(self, digit: u8) -> Fraction
         requires { digit ≤ 9 }
-        ensures { take result.count result.digits ≡ take 17 (take self.count self.digits ++ digit ∷ []) }
+        ensures scale { result.scale ≡ (if nat_le (10 ^ 17) self.scale then self.scale else 10 * self.scale) }
+        ensures value { result.value ≡ (if nat_le (10 ^ 17) self.scale then self.value else 10 * self.value + digit) }
     {
-        if self.count == 17 {
+        if self.scale >= FULL {
             return self;
         }
-        let mut digits = self.digits;
-        digits[self.count] = digit;
         Fraction {
-            digits,
-            count: self.count + 1,
+            scale: 10 * self.scale,
+            value: 10 * self.value + u64::from(digit),
         }
     }
 
-    /// The fraction in 65536ths.
-    pub(crate) fn value(&self) -> u32
-        ensures { result ≡ fraction_from_digits (take 17 (take self.now.count self.now.digits)) }
+    /// The nearest number of 65536ths, halves up.
+    pub(crate) fn nearest(self) -> u32
+        ensures { result ≡ (131072 * self.value + self.scale) / (2 * self.scale) }
     {
-        round_decimals(&self.digits[..self.count]) as u32
+        let scale = u128::from(self.scale);
+        let twice = 131_072 * u128::from(self.value) + scale;
+        (twice / (2 * scale)) as u32
     }
 }

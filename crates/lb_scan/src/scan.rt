@@ -1,5 +1,5 @@
 //! Scans.
-ghost use Rattle.std.specs.Prelude.{◌≡◌, ◌++◌, ◌∷◌, [], List, IfOk, IfErr, OnOk, OnErr, Some, Err, ℕ};
+ghost use Rattle.std.specs.Prelude.{◌≡◌, ◌++◌, ◌∷◌, [], List, IfOk, IfErr, OnOk, OnErr, Some, Err, ℕ, true, false};
 ghost use Rattle.lb_base.specs.declared.fault.Fault.{Fault as AFault};
 ghost use Rattle.lb_base.specs.declared.fault.Kind.{Kind as AKind};
 ghost use Rattle.lb_model_grammar.specs.declared.given.Given.{Given as AGiven};
@@ -11,7 +11,7 @@ ghost use Rattle.lb_scan.specs.Numbers.{number_after, turned_number};
 ghost use Rattle.lb_scan.specs.Stages.{stage_after, turned, uses_of, within, word_of};
 ghost use Rattle.lb_scan.specs.Words.{units_in};
 
-use crate::dimension::{Length, length_turn};
+use crate::dimension::{Length, Turn, length_turn};
 use crate::glue::{dimension_turned, minus, plus, shrinkable, stretchable};
 use crate::history::History;
 use crate::kept::Kept;
@@ -111,6 +111,7 @@ fn length_turned(purpose: Purpose, length: &Length, given: &Given) -> Turned
 }
 
 // The stage that a scan turns to where this is given.
+#[inline(never)]
 fn turn(word: &[u8], stage: &Stage, given: &Given) -> Turned
     requires { within word.now stage.now }
     ensures next { (all more : List AGiven) → turned word.now result all given.now more ≡ stage_after word.now stage.now all (given.now ∷ more) }
@@ -133,6 +134,39 @@ fn turn(word: &[u8], stage: &Stage, given: &Given) -> Turned
             stage: Stage::Failed(*kind),
             keeps: Keeps::All,
         },
+    }
+}
+
+// Turns within a number, or a dimension that nothing stands before, where it goes on and nothing is kept: the way of most tokens. Whether
+// it did so; else the stage is as before.
+fn goes_on(stage: &mut Stage, given: &Given) -> bool
+    ensures goes { result ≡ true → (word : List ℕ) (all left more : List AGiven) → stage_after word stage.new left more ≡ stage_after word stage.old all (given.now ∷ more) }
+    ensures within { result ≡ true → (word : List ℕ) → within word stage.new }
+    ensures same { result ≡ false → stage.new ≡ stage.old }
+{
+    match stage {
+        Stage::Number(number) => match number_turn(*number, given) {
+            NumberTurn::Goes(next) => {
+                *stage = Stage::Number(next);
+                true
+            }
+            _ => false,
+        },
+        Stage::Length(Purpose::Dimension, length) => match length_turn(false, length, given) {
+            Turn::Goes(next) => {
+                *stage = Stage::Length(Purpose::Dimension, next);
+                true
+            }
+            _ => false,
+        },
+        Stage::Length(Purpose::Width, length) => match length_turn(false, length, given) {
+            Turn::Goes(next) => {
+                *stage = Stage::Length(Purpose::Width, next);
+                true
+            }
+            _ => false,
+        },
+        _ => false,
     }
 }
 
@@ -207,8 +241,12 @@ impl Scan {
         ensures ok { OnOk result (self.new.given ≡ self.old.given ++ given ∷ []) }
         ensures err { OnErr result (self.new ≡ self.old) }
     {
-        let turned = turn(word_of(&self.kind), &self.stage, &given);
         let past = self.past.and(&given);
+        if goes_on(&mut self.stage, &given) {
+            self.past = past;
+            return Ok(());
+        }
+        let turned = turn(word_of(&self.kind), &self.stage, &given);
         self.kept.turn(turned.keeps, given)?;
         self.stage = turned.stage;
         self.past = past;
