@@ -7,14 +7,14 @@ use Rattle.lb_model_grammar.specs.declared.given.Want.{Want}
 use Rattle.lb_model_grammar.specs.Dimensions.{Unit_of, Uses, length_behind}
 use Rattle.lb_model_grammar.specs.Scans.{Meant, after_of, letters, one_of, value_of}
 use Rattle.lb_model_grammar.specs.Scans.Meant.{Open, Ended}
-use Rattle.lb_scan.specs.declared.dimension.Length.{Length as Lengths}
-use Rattle.lb_scan.specs.declared.dimension.Length.TheVariants as length
+use Rattle.lb_scan.specs.declared.length.Length.{Length as Lengths}
+use Rattle.lb_scan.specs.declared.length.Length.TheVariants as length
 use Rattle.lb_scan.specs.declared.number.Number.{Number as Numbers}
 use Rattle.lb_scan.specs.declared.number.Number.TheVariants as number
 use Rattle.lb_scan.specs.declared.stage.Stage.{Stage}
 use Rattle.lb_scan.specs.declared.stage.Stage.TheVariants.{Number, Length, Stretchable, Plus, Shrinkable, Minus, Spaces, Letters, Over, Failed}
-use Rattle.lb_scan.specs.declared.unit.Prefix.{Prefix}
-use Rattle.lb_scan.specs.declared.unit.Prefix.TheVariants.{P, I, C, M, B, D, S, E, F, Fi, Fil, Fill}
+use Rattle.lb_scan.specs.declared.spelling.Prefix.{Prefix}
+use Rattle.lb_scan.specs.declared.spelling.Prefix.TheVariants.{P, I, C, M, B, D, S, E, F, Fi, Fil, Fill}
 use Rattle.lb_scan.specs.Lengths.{length_after}
 use Rattle.lb_scan.specs.Numbers.{number_after}
 use Rattle.lb_scan.specs.Stages.{shrink_uses, shrinkable_after, stage_after, stretch_uses, stretchable_after, uses_of, within}

@@ -8,10 +8,10 @@ use Rattle.lb_model_grammar.specs.declared.given.Want.TheVariants as want
 use Rattle.lb_model_grammar.specs.Dimensions.{Uses, behind_whole, font_unit, in_unit, internal, internal_unit, length_behind, sized, unit}
 use Rattle.lb_model_grammar.specs.Scans.{Meant, digit_of, digits, if_digit, one_of, space_before}
 use Rattle.lb_model_grammar.specs.Scans.Meant.{Open, Wrong}
-use Rattle.lb_scan.specs.declared.dimension.Length.{Length}
-use Rattle.lb_scan.specs.declared.dimension.Length.TheVariants.{Signs, Whole, Fraction, Unit_, Letters, InternalUnit, FontUnit, Internal, Space}
-use Rattle.lb_scan.specs.declared.dimension.Turn.{Turn}
-use Rattle.lb_scan.specs.declared.dimension.Turn.TheVariants.{Goes, Alone, Missing, Fails, Found, FoundBefore}
+use Rattle.lb_scan.specs.declared.length.Length.{Length}
+use Rattle.lb_scan.specs.declared.length.Length.TheVariants.{Signs, Whole, Fraction, Unit_, Letters, InternalUnit, FontUnit, Internal, Space}
+use Rattle.lb_scan.specs.declared.length.Turn.{Turn}
+use Rattle.lb_scan.specs.declared.length.Turn.TheVariants.{Goes, Alone, Missing, Fails, Found, FoundBefore}
 use Rattle.lb_scan.specs.Words.{endings}
 
 -- the digits behind a point, of which the first 17 count: those that were read make the number v, which counts in parts of the scale

@@ -9,12 +9,12 @@ use Rattle.lb_model_grammar.specs.declared.given.Want.TheVariants as want
 use Rattle.lb_model_grammar.specs.Dimensions.{Unit_of, glue_units, units}
 use Rattle.lb_model_grammar.specs.Dimensions.Unit_of.{Physical, Scaled, OfFont, Infinite}
 use Rattle.lb_model_grammar.specs.Scans.{Meant, letters, lower, one_of}
-use Rattle.lb_scan.specs.declared.unit.Prefix.{Prefix}
-use Rattle.lb_scan.specs.declared.unit.Prefix.TheVariants as prefix
-use Rattle.lb_scan.specs.declared.unit.Spelled.{Spelled}
-use Rattle.lb_scan.specs.declared.unit.Spelled.TheVariants as spelled
-use Rattle.lb_scan.specs.declared.unit.Unit.{Unit as AUnit}
-use Rattle.lb_scan.specs.declared.unit.Unit.TheVariants as unit
+use Rattle.lb_scan.specs.declared.spelling.Prefix.{Prefix}
+use Rattle.lb_scan.specs.declared.spelling.Prefix.TheVariants as prefix
+use Rattle.lb_scan.specs.declared.spelling.Spelled.{Spelled}
+use Rattle.lb_scan.specs.declared.spelling.Spelled.TheVariants as spelled
+use Rattle.lb_scan.specs.declared.spelling.Unit.{Unit as AUnit}
+use Rattle.lb_scan.specs.declared.spelling.Unit.TheVariants as unit
 use Rattle.lb_scan.specs.declared.word.Progress.{Progress}
 use Rattle.lb_scan.specs.declared.word.Progress.TheVariants.{Letters, Found, Missing}
 
@@ -98,8 +98,6 @@ unit_of unit.Cc = Physical 14856 1157
 unit_of unit.Sp = Scaled
 unit_of unit.Em = OfFont want.Em
 unit_of unit.Ex = OfFont want.Ex
-unit_of unit.Fil = Infinite order.Fil
-unit_of unit.Fill = Infinite order.Fill
 unit_of unit.Filll = Infinite order.Filll
 
 -- the ends of units behind one letter more

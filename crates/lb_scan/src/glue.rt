@@ -8,7 +8,7 @@ ghost use Rattle.lb_scan.specs.Stages.{stage_after, turned, uses_of, within};
 
 use crate::arith::signed_value;
 use crate::class::{is_space, letter_of};
-use crate::dimension::{Length, Turn};
+use crate::length::{Length, Turn};
 use crate::stage::{Keeps, Purpose, Stage, Turned};
 use crate::word::{Progress, next_letter};
 use lb_base::{Glue, Kind, Order};

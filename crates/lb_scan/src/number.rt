@@ -16,11 +16,11 @@ pub(crate) enum Number {
     /// The first digit in a base comes next.
     First(bool, u8),
     /// Digits in a base were read.
-    Digits(bool, u8, u64),
+    Digits(bool, u8, u32),
     /// A character comes next.
     Character(bool),
     /// A space may come behind a character.
-    Space(bool, u64),
+    Space(bool, u32),
     /// The quantity of the token that was given last comes next.
     Internal(bool),
 }
@@ -35,7 +35,7 @@ pub(crate) enum NumberTurn {
 }
 
 // A number is read, and a space behind it.
-fn end(negative: bool, value: u64) -> NumberTurn
+fn end(negative: bool, value: u32) -> NumberTurn
     ensures { (g : AGiven) (more : List AGiven) → turned_number result g more ≡ ended negative value more }
 {
     if value < LIMIT {
@@ -46,7 +46,7 @@ fn end(negative: bool, value: u64) -> NumberTurn
 }
 
 // A number is read, and something that is not of it.
-fn end_before(negative: bool, value: u64) -> NumberTurn
+fn end_before(negative: bool, value: u32) -> NumberTurn
     ensures { (g : AGiven) (more : List AGiven) → turned_number result g more ≡ ended negative value (g ∷ more) }
 {
     if value < LIMIT {
@@ -57,7 +57,7 @@ fn end_before(negative: bool, value: u64) -> NumberTurn
 }
 
 // What stands behind a number, which is taken where it is a space.
-fn close(negative: bool, value: u64, given: &Given) -> NumberTurn
+fn close(negative: bool, value: u32, given: &Given) -> NumberTurn
     ensures { (more : List AGiven) → turned_number result given.now more ≡ closed negative value (given.now ∷ more) }
 {
     match given {
@@ -78,7 +78,7 @@ fn sign(negative: bool, tok: &Tok) -> NumberTurn
     match classify(tok) {
         Class::Space | Class::Plus => NumberTurn::Goes(Number::Signs(negative)),
         Class::Minus => NumberTurn::Goes(Number::Signs(!negative)),
-        Class::Digit(digit) => NumberTurn::Goes(Number::Digits(negative, 10, digit as u64)),
+        Class::Digit(digit) => NumberTurn::Goes(Number::Digits(negative, 10, u32::from(digit))),
         Class::Octal => NumberTurn::Goes(Number::First(negative, 8)),
         Class::Hexadecimal => NumberTurn::Goes(Number::First(negative, 16)),
         Class::Quote => NumberTurn::Goes(Number::Character(negative)),
@@ -101,14 +101,14 @@ fn first(negative: bool, base: u8, given: &Given) -> NumberTurn
 {
     match given {
         Given::Tok(tok) => match digit_of(base, tok) {
-            Some(digit) => NumberTurn::Goes(Number::Digits(negative, base, digit as u64)),
+            Some(digit) => NumberTurn::Goes(Number::Digits(negative, base, u32::from(digit))),
             None => NumberTurn::Fails(Kind::NumberMissing),
         },
         _ => NumberTurn::Fails(Kind::NumberMissing),
     }
 }
 
-fn digits(negative: bool, base: u8, value: u64, given: &Given) -> NumberTurn
+fn digits(negative: bool, base: u8, value: u32, given: &Given) -> NumberTurn
     ensures { (more : List AGiven) → turned_number result given.now more ≡ number_after (Number.Digits negative base value) (given.now ∷ more) }
 {
     match given {
@@ -127,10 +127,10 @@ fn character(negative: bool, given: &Given) -> NumberTurn
 {
     match given {
         Given::Tok(Tok::Char(_, code)) | Given::Tok(Tok::Active(code)) => {
-            NumberTurn::Goes(Number::Space(negative, *code as u64))
+            NumberTurn::Goes(Number::Space(negative, u32::from(*code)))
         }
         Given::Tok(Tok::Word(name)) => match name.as_slice() {
-            [code] => NumberTurn::Goes(Number::Space(negative, *code as u64)),
+            [code] => NumberTurn::Goes(Number::Space(negative, u32::from(*code))),
             _ => NumberTurn::Fails(Kind::NumberMissing),
         },
         _ => NumberTurn::Fails(Kind::NumberMissing),

@@ -11,11 +11,12 @@ ghost use Rattle.lb_scan.specs.Numbers.{number_after, turned_number};
 ghost use Rattle.lb_scan.specs.Stages.{stage_after, turned, uses_of, within, word_of};
 ghost use Rattle.lb_scan.specs.Words.{units_in};
 
-use crate::dimension::{Length, Turn, length_turn};
+use crate::dimension::length_turn;
 use crate::glue::{dimension_turned, minus, plus, shrinkable, stretchable};
 use crate::history::History;
 use crate::kept::Kept;
 use crate::keyword::{letters, spaces};
+use crate::length::{Length, Turn};
 use crate::number::{Number, NumberTurn, number_turn};
 use crate::stage::{Keeps, Purpose, Stage, Turned};
 use lb_base::{Kind, NoMemory, Stop, TokList};
@@ -147,21 +148,21 @@ fn goes_on(stage: &mut Stage, given: &Given) -> bool
     match stage {
         Stage::Number(number) => match number_turn(*number, given) {
             NumberTurn::Goes(next) => {
-                *stage = Stage::Number(next);
+                *number = next;
                 true
             }
             _ => false,
         },
         Stage::Length(Purpose::Dimension, length) => match length_turn(false, length, given) {
             Turn::Goes(next) => {
-                *stage = Stage::Length(Purpose::Dimension, next);
+                *length = next;
                 true
             }
             _ => false,
         },
         Stage::Length(Purpose::Width, length) => match length_turn(false, length, given) {
             Turn::Goes(next) => {
-                *stage = Stage::Length(Purpose::Width, next);
+                *length = next;
                 true
             }
             _ => false,

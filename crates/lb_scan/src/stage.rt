@@ -1,5 +1,5 @@
 //! How far a scan has come.
-use crate::dimension::Length;
+use crate::length::Length;
 use crate::number::Number;
 use lb_base::{Glue, Kind};
 use lb_model_grammar::Scanned;

@@ -1,107 +1,143 @@
-//! Units of dimensions by their letters.
-ghost use Rattle.std.specs.Prelude.{◌≡◌, true, List, MatchOption};
-ghost use Rattle.lb_model_grammar.specs.declared.given.Given.{Given};
-ghost use Rattle.lb_model_grammar.specs.declared.given.Scanned.{Scanned};
-ghost use Rattle.lb_model_grammar.specs.Dimensions.{Unit_of, units};
-ghost use Rattle.lb_model_grammar.specs.Scans.{Meant, one_of};
-ghost use Rattle.lb_scan.specs.Words.{behind_letter, endings, no_letter, none_begins, spelled_after, spelled_ends, units_in};
+//! Turns of a scan of a dimension within its unit.
+ghost use Rattle.std.specs.Prelude.{◌≡◌, ◌∷◌, List};
+ghost use Rattle.lb_base.specs.declared.fault.Kind.{Kind as AKind};
+ghost use Rattle.lb_model_grammar.specs.declared.given.Given.{Given as AGiven};
+ghost use Rattle.lb_model_grammar.specs.Dimensions.{Uses, in_unit};
+ghost use Rattle.lb_model_grammar.specs.Scans.{one_of};
+ghost use Rattle.lb_scan.specs.Lengths.{length_after, turned_length};
+ghost use Rattle.lb_scan.specs.Words.{behind_letter, endings, no_letter, unit_of, units_in};
 
-/// A unit. The last three are of infinite glue.
-#[derive(Clone, Copy)]
-pub(crate) enum Unit {
-    Pt,
-    In,
-    Pc,
-    Cm,
-    Mm,
-    Bp,
-    Dd,
-    Cc,
-    Sp,
-    Em,
-    Ex,
-    Fil,
-    Fill,
-    Filll,
-}
+use crate::class::{classify, letter_of};
+use crate::length::{Length, Turn, close, end};
+use crate::size::{Decimal, infinite, multiply, physical, scaled};
+use crate::spelling::{Prefix, Spelled, Unit, first_letter, spell};
+use lb_base::{Kind, Order, Tok};
+use lb_model_grammar::{Class, Given, Quantity, Want};
 
-/// The letters of a unit that has not come to its end, or that may go on.
-#[derive(Clone, Copy)]
-pub(crate) enum Prefix {
-    P,
-    I,
-    C,
-    M,
-    B,
-    D,
-    S,
-    E,
-    F,
-    Fi,
-    Fil,
-    Fill,
-}
-
-/// What the letters of a unit are with one more: all of it, a part of it, or nothing.
-#[derive(Clone, Copy)]
-pub(crate) enum Spelled {
-    Whole(Unit),
-    Part(Prefix),
-    Nothing,
-}
-
-// The first letter of a finite unit.
-fn finite_letter(letter: u8) -> Option<Prefix>
-    ensures { MatchOption result (none_begins letter units ≡ true) (λ p. behind_letter letter units ≡ endings p) }
+// A whole unit was read.
+fn unit_read(decimal: Decimal, unit: Unit) -> Turn
+    ensures { (u : Uses) (g : AGiven) (more : List AGiven) →
+        turned_length u result g more ≡ in_unit u decimal.negative decimal.whole decimal.part (unit_of unit) more }
 {
-    match letter {
-        b'p' => Some(Prefix::P),
-        b'i' => Some(Prefix::I),
-        b'c' => Some(Prefix::C),
-        b'm' => Some(Prefix::M),
-        b'b' => Some(Prefix::B),
-        b'd' => Some(Prefix::D),
-        b's' => Some(Prefix::S),
-        b'e' => Some(Prefix::E),
-        _ => None,
+    match unit {
+        Unit::Pt => Turn::Goes(Length::Space(physical(decimal, 1, 1))),
+        Unit::In => Turn::Goes(Length::Space(physical(decimal, 7227, 100))),
+        Unit::Pc => Turn::Goes(Length::Space(physical(decimal, 12, 1))),
+        Unit::Cm => Turn::Goes(Length::Space(physical(decimal, 7227, 254))),
+        Unit::Mm => Turn::Goes(Length::Space(physical(decimal, 7227, 2540))),
+        Unit::Bp => Turn::Goes(Length::Space(physical(decimal, 7227, 7200))),
+        Unit::Dd => Turn::Goes(Length::Space(physical(decimal, 1238, 1157))),
+        Unit::Cc => Turn::Goes(Length::Space(physical(decimal, 14856, 1157))),
+        Unit::Sp => Turn::Goes(Length::Space(scaled(decimal))),
+        Unit::Em => Turn::Goes(Length::FontUnit(decimal, Want::Em)),
+        Unit::Ex => Turn::Goes(Length::FontUnit(decimal, Want::Ex)),
+        Unit::Filll => Turn::Goes(Length::Space(infinite(decimal, Order::Filll))),
     }
 }
 
-/// The first letter of a unit, which may be one of infinite glue.
-pub(crate) fn first_letter(infinite: bool, letter: u8) -> Option<Prefix>
-    ensures { MatchOption result (none_begins letter (units_in infinite) ≡ true) (λ p. behind_letter letter (units_in infinite) ≡ endings p) }
+// What was given goes on with no unit of these letters.
+fn letters_end(decimal: Decimal, prefix: Prefix, given: &Given) -> Turn
+    ensures { (u : Uses) (more : List AGiven) → turned_length u result given.now more
+        ≡ no_letter (endings prefix) (λ x. in_unit u decimal.negative decimal.whole decimal.part x (given.now ∷ more)) (u.missing AKind.UnitMissing) }
 {
-    if !infinite {
-        return finite_letter(letter);
+    match prefix {
+        Prefix::Fil => close(infinite(decimal, Order::Fil), given),
+        Prefix::Fill => close(infinite(decimal, Order::Fill), given),
+        Prefix::P => Turn::Missing(Kind::UnitMissing),
+        Prefix::I => Turn::Missing(Kind::UnitMissing),
+        Prefix::C => Turn::Missing(Kind::UnitMissing),
+        Prefix::M => Turn::Missing(Kind::UnitMissing),
+        Prefix::B => Turn::Missing(Kind::UnitMissing),
+        Prefix::D => Turn::Missing(Kind::UnitMissing),
+        Prefix::S => Turn::Missing(Kind::UnitMissing),
+        Prefix::E => Turn::Missing(Kind::UnitMissing),
+        Prefix::F => Turn::Missing(Kind::UnitMissing),
+        Prefix::Fi => Turn::Missing(Kind::UnitMissing),
     }
-    if letter == b'f' {
-        return Some(Prefix::F);
-    }
-    finite_letter(letter)
 }
 
-/// One letter more.
-pub(crate) fn spell(prefix: Prefix, letter: u8) -> Spelled
-    ensures ends { spelled_ends result ≡ behind_letter letter (endings prefix) }
-    ensures rest { (found : Unit_of → List Given → Meant Scanned) (ended : Unit_of → Meant Scanned) (missing : Meant Scanned) (more : List Given) →
-        spelled_after prefix result found ended missing more ≡ one_of (spelled_ends result) found (no_letter (endings prefix) ended missing) more }
+// A letter behind letters of a unit.
+fn letter_more(decimal: Decimal, prefix: Prefix, letter: u8, given: &Given) -> Turn
+    ensures { (u : Uses) (more : List AGiven) → turned_length u result given.now more
+        ≡ one_of (behind_letter letter (endings prefix)) (in_unit u decimal.negative decimal.whole decimal.part)
+            (no_letter (endings prefix) (λ x. in_unit u decimal.negative decimal.whole decimal.part x (given.now ∷ more)) (u.missing AKind.UnitMissing)) more }
 {
-    match (prefix, letter) {
-        (Prefix::P, b't') => Spelled::Whole(Unit::Pt),
-        (Prefix::P, b'c') => Spelled::Whole(Unit::Pc),
-        (Prefix::I, b'n') => Spelled::Whole(Unit::In),
-        (Prefix::C, b'm') => Spelled::Whole(Unit::Cm),
-        (Prefix::C, b'c') => Spelled::Whole(Unit::Cc),
-        (Prefix::M, b'm') => Spelled::Whole(Unit::Mm),
-        (Prefix::B, b'p') => Spelled::Whole(Unit::Bp),
-        (Prefix::D, b'd') => Spelled::Whole(Unit::Dd),
-        (Prefix::S, b'p') => Spelled::Whole(Unit::Sp),
-        (Prefix::E, b'm') => Spelled::Whole(Unit::Em),
-        (Prefix::E, b'x') => Spelled::Whole(Unit::Ex),
-        (Prefix::F, b'i') => Spelled::Part(Prefix::Fi),
-        (Prefix::Fi, b'l') => Spelled::Part(Prefix::Fil),
-        (Prefix::Fil, b'l') => Spelled::Part(Prefix::Fill),
-        (Prefix::Fill, b'l') => Spelled::Whole(Unit::Filll),
-        _ => Spelled::Nothing,
+    match spell(prefix, letter) {
+        Spelled::Whole(unit) => unit_read(decimal, unit),
+        Spelled::Part(prefix) => Turn::Goes(Length::Letters(decimal, prefix)),
+        Spelled::Nothing => letters_end(decimal, prefix, given),
+    }
+}
+
+/// What is given behind letters of a unit.
+pub(crate) fn letters(decimal: Decimal, prefix: Prefix, given: &Given) -> Turn
+    ensures { (u : Uses) (more : List AGiven) → turned_length u result given.now more ≡ length_after u (Length.Letters decimal prefix) (given.now ∷ more) }
+{
+    match given {
+        Given::Tok(tok) => match letter_of(tok) {
+            Some(letter) => letter_more(decimal, prefix, letter, given),
+            None => letters_end(decimal, prefix, given),
+        },
+        Given::Quantity(_) => letters_end(decimal, prefix, given),
+        Given::End => letters_end(decimal, prefix, given),
+    }
+}
+
+// The first letter of a unit.
+fn letters_begin(infinite: bool, decimal: Decimal, tok: &Tok) -> Turn
+    ensures { (u : Uses) → u.units ≡ units_in infinite → (more : List AGiven) → turned_length u result (AGiven.Tok tok.now) more
+        ≡ one_of u.units (in_unit u decimal.negative decimal.whole decimal.part) (u.missing AKind.UnitMissing) (AGiven.Tok tok.now ∷ more) }
+{
+    match letter_of(tok) {
+        Some(letter) => match first_letter(infinite, letter) {
+            Some(prefix) => Turn::Goes(Length::Letters(decimal, prefix)),
+            None => Turn::Missing(Kind::UnitMissing),
+        },
+        None => Turn::Missing(Kind::UnitMissing),
+    }
+}
+
+/// What is given where a unit may begin.
+pub(crate) fn unit(infinite: bool, decimal: Decimal, given: &Given) -> Turn
+    ensures { (u : Uses) → u.units ≡ units_in infinite → (more : List AGiven) →
+        turned_length u result given.now more ≡ length_after u (Length.Unit_ decimal) (given.now ∷ more) }
+{
+    match given {
+        Given::Tok(tok) => match classify(tok) {
+            Class::Space => Turn::Goes(Length::Unit_(decimal)),
+            Class::Command => Turn::Goes(Length::InternalUnit(decimal)),
+            Class::Plus => letters_begin(infinite, decimal, tok),
+            Class::Minus => letters_begin(infinite, decimal, tok),
+            Class::Digit(_) => letters_begin(infinite, decimal, tok),
+            Class::Octal => letters_begin(infinite, decimal, tok),
+            Class::Hexadecimal => letters_begin(infinite, decimal, tok),
+            Class::Quote => letters_begin(infinite, decimal, tok),
+            Class::Point => letters_begin(infinite, decimal, tok),
+            Class::Other => letters_begin(infinite, decimal, tok),
+        },
+        Given::Quantity(_) => Turn::Missing(Kind::UnitMissing),
+        Given::End => Turn::Missing(Kind::UnitMissing),
+    }
+}
+
+/// The internal dimension that stands for a unit.
+pub(crate) fn internal_unit(decimal: Decimal, given: &Given) -> Turn
+    ensures { (u : Uses) (more : List AGiven) → turned_length u result given.now more ≡ length_after u (Length.InternalUnit decimal) (given.now ∷ more) }
+{
+    match given {
+        Given::Quantity(Quantity::Dimen(dimen)) => end(multiply(decimal, *dimen)),
+        _ => Turn::Missing(Kind::UnitMissing),
+    }
+}
+
+/// The size of a unit of the present font.
+pub(crate) fn font_unit(decimal: Decimal, asked: Want, given: &Given) -> Turn
+    ensures { (u : Uses) (more : List AGiven) → turned_length u result given.now more ≡ length_after u (Length.FontUnit decimal asked) (given.now ∷ more) }
+{
+    match given {
+        Given::Quantity(Quantity::Dimen(dimen)) => {
+            Turn::Goes(Length::Space(multiply(decimal, *dimen)))
+        }
+        _ => Turn::Missing(Kind::UnitMissing),
     }
 }

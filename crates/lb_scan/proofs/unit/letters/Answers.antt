@@ -5,7 +5,7 @@ use Rattle.lb_model_grammar.specs.Dimensions.{in_unit}
 use Rattle.lb_model_grammar.specs.Scans.{one_of}
 use Rattle.lb_scan.specs.Words.{behind_letter, endings, no_letter}
 use Rattle.lb_scan.proofs.UnitLemmas.{one-of-letter}
-use Rattle.lb_scan.proofs.dimension.letters.Goals as goal
+use Rattle.lb_scan.proofs.unit.letters.Goals as goal
 
 pub returns-in-Some : goal.returns-in-Some
 returns-in-Some c =

@@ -5,7 +5,7 @@ use Rattle.lb_model_grammar.specs.Dimensions.{in_unit}
 use Rattle.lb_model_grammar.specs.Scans.{one_of}
 use Rattle.lb_scan.specs.Words.{behind_letter, units_in}
 use Rattle.lb_scan.proofs.UnitLemmas.{units-begin, units-begin-none, none-behind}
-use Rattle.lb_scan.proofs.dimension.letters_begin.Goals as goal
+use Rattle.lb_scan.proofs.unit.letters_begin.Goals as goal
 
 pub returns-in-Some-first_letter : goal.returns-in-Some-first_letter
 returns-in-Some-first_letter c =
