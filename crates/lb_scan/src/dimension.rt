@@ -1,14 +1,15 @@
 //! Turns of a scan of a dimension, whatever comes of it.
-ghost use Rattle.std.specs.Prelude.{◌≡◌, ◌∷◌, List};
+ghost use Rattle.std.specs.Prelude.{◌≡◌, ◌∷◌, List, Bool, ℕ, true, false};
 ghost use Rattle.lb_model_grammar.specs.declared.given.Given.{Given as AGiven};
 ghost use Rattle.lb_model_grammar.specs.Dimensions.{Uses, behind_whole, point_or_unit};
-ghost use Rattle.lb_scan.specs.Lengths.{length_after, turned_length};
+ghost use Rattle.lb_scan.specs.Lengths.{counted, length_after, turned_length};
 ghost use Rattle.lb_scan.specs.Words.{units_in};
 
 use crate::arith::{LIMIT, grow};
 use crate::class::{classify, digit_of, is_point};
 use crate::fraction::Fraction;
 use crate::length::{Length, Turn, close};
+use crate::number::digit_of_number;
 use crate::size::Decimal;
 use crate::unit::{font_unit, internal_unit, letters, unit};
 use lb_base::{Kind, Tok};
@@ -82,6 +83,39 @@ fn fraction(infinite: bool, negative: bool, whole: u32, digits: Fraction, given:
         },
         Given::Quantity(_) => Turn::Missing(Kind::UnitMissing),
         Given::End => Turn::Missing(Kind::UnitMissing),
+    }
+}
+
+// Takes a digit behind the point. Whether it was one; else all is as before.
+#[inline]
+fn digit_of_fraction(digits: &mut Fraction, given: &Given) -> bool
+    ensures next { result ≡ true → (u : Uses) (negative : Bool) (whole : ℕ) (more : List AGiven) →
+        counted u negative whole digits.new.scale digits.new.value more ≡ counted u negative whole digits.old.scale digits.old.value (given.now ∷ more) }
+    ensures same { result ≡ false → digits.new ≡ digits.old }
+{
+    match given {
+        Given::Tok(tok) => match digit_of(10, tok) {
+            Some(digit) => {
+                *digits = digits.and(digit);
+                true
+            }
+            None => false,
+        },
+        Given::Quantity(_) => false,
+        Given::End => false,
+    }
+}
+
+/// The same within a dimension.
+#[inline]
+pub(crate) fn length_digit(stage: &mut Length, given: &Given) -> bool
+    ensures next { result ≡ true → (u : Uses) (more : List AGiven) → length_after u stage.new more ≡ length_after u stage.old (given.now ∷ more) }
+    ensures same { result ≡ false → stage.new ≡ stage.old }
+{
+    match stage {
+        Length::Whole(_, value) => digit_of_number(10, value, given),
+        Length::Fraction(_, _, digits) => digit_of_fraction(digits, given),
+        _ => false,
     }
 }
 

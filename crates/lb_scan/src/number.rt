@@ -1,7 +1,9 @@
 //! Turns of a scan of a number.
-ghost use Rattle.std.specs.Prelude.{◌≡◌, ◌∷◌, List};
+ghost use Rattle.std.specs.Prelude.{◌≡◌, ◌∷◌, List, ℕ, true, false};
 ghost use Rattle.lb_model_grammar.specs.declared.given.Given.{Given as AGiven};
+ghost use Rattle.lb_model_grammar.specs.declared.given.Scanned.{Scanned as AScanned};
 ghost use Rattle.lb_model_grammar.specs.Numbers.{closed, ended};
+ghost use Rattle.lb_model_grammar.specs.Scans.{Meant, digits};
 ghost use Rattle.lb_scan.specs.Numbers.{number_after, turned_number};
 
 use crate::arith::{LIMIT, grow, signed_value};
@@ -159,5 +161,36 @@ pub(crate) fn number_turn(stage: Number, given: &Given) -> NumberTurn
         Number::Character(negative) => character(negative, given),
         Number::Space(negative, value) => close(negative, value, given),
         Number::Internal(negative) => internal(negative, given),
+    }
+}
+
+/// Takes a digit behind digits. Whether it was one; else all is as before.
+#[inline]
+pub(crate) fn digit_of_number(base: u8, value: &mut u32, given: &Given) -> bool
+    ensures next { result ≡ true → (f : ℕ → List AGiven → Meant AScanned) (more : List AGiven) → digits base value.new f more ≡ digits base value.old f (given.now ∷ more) }
+    ensures same { result ≡ false → value.new ≡ value.old }
+{
+    match given {
+        Given::Tok(tok) => match digit_of(base, tok) {
+            Some(digit) => {
+                *value = grow(base, *value, digit);
+                true
+            }
+            None => false,
+        },
+        Given::Quantity(_) => false,
+        Given::End => false,
+    }
+}
+
+/// The same within a number.
+#[inline]
+pub(crate) fn number_digit(stage: &mut Number, given: &Given) -> bool
+    ensures next { result ≡ true → (more : List AGiven) → number_after stage.new more ≡ number_after stage.old (given.now ∷ more) }
+    ensures same { result ≡ false → stage.new ≡ stage.old }
+{
+    match stage {
+        Number::Digits(_, base, value) => digit_of_number(*base, value, given),
+        _ => false,
     }
 }

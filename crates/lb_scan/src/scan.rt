@@ -11,13 +11,13 @@ ghost use Rattle.lb_scan.specs.Numbers.{number_after, turned_number};
 ghost use Rattle.lb_scan.specs.Stages.{stage_after, turned, uses_of, within, word_of};
 ghost use Rattle.lb_scan.specs.Words.{units_in};
 
-use crate::dimension::length_turn;
+use crate::dimension::{length_digit, length_turn};
 use crate::glue::{dimension_turned, minus, plus, shrinkable, stretchable};
 use crate::history::History;
 use crate::kept::Kept;
 use crate::keyword::{letters, spaces};
-use crate::length::{Length, Turn};
-use crate::number::{Number, NumberTurn, number_turn};
+use crate::length::Length;
+use crate::number::{Number, NumberTurn, number_digit, number_turn};
 use crate::stage::{Keeps, Purpose, Stage, Turned};
 use lb_base::{Kind, NoMemory, Stop, TokList};
 use lb_model_grammar::{Given, ScanKind, Scanned, Want};
@@ -138,35 +138,18 @@ fn turn(word: &[u8], stage: &Stage, given: &Given) -> Turned
     }
 }
 
-// Turns within a number, or a dimension that nothing stands before, where it goes on and nothing is kept: the way of most tokens. Whether
-// it did so; else the stage is as before.
-fn goes_on(stage: &mut Stage, given: &Given) -> bool
-    ensures goes { result ≡ true → (word : List ℕ) (all left more : List AGiven) → stage_after word stage.new left more ≡ stage_after word stage.old all (given.now ∷ more) }
+// Takes a digit of a number, or of a dimension behind which nothing is kept: the short way of most tokens. Whether it was one; else the
+// stage is as before.
+#[inline]
+fn take_digit(stage: &mut Stage, given: &Given) -> bool
+    ensures next { result ≡ true → (word : List ℕ) (all left more : List AGiven) → stage_after word stage.new left more ≡ stage_after word stage.old all (given.now ∷ more) }
     ensures within { result ≡ true → (word : List ℕ) → within word stage.new }
     ensures same { result ≡ false → stage.new ≡ stage.old }
 {
     match stage {
-        Stage::Number(number) => match number_turn(*number, given) {
-            NumberTurn::Goes(next) => {
-                *number = next;
-                true
-            }
-            _ => false,
-        },
-        Stage::Length(Purpose::Dimension, length) => match length_turn(false, length, given) {
-            Turn::Goes(next) => {
-                *length = next;
-                true
-            }
-            _ => false,
-        },
-        Stage::Length(Purpose::Width, length) => match length_turn(false, length, given) {
-            Turn::Goes(next) => {
-                *length = next;
-                true
-            }
-            _ => false,
-        },
+        Stage::Number(number) => number_digit(number, given),
+        Stage::Length(Purpose::Dimension, length) => length_digit(length, given),
+        Stage::Length(Purpose::Width, length) => length_digit(length, given),
         _ => false,
     }
 }
@@ -243,7 +226,7 @@ impl Scan {
         ensures err { OnErr result (self.new ≡ self.old) }
     {
         let past = self.past.and(&given);
-        if goes_on(&mut self.stage, &given) {
+        if take_digit(&mut self.stage, &given) {
             self.past = past;
             return Ok(());
         }
