@@ -1,9 +1,9 @@
 -- Digits counted as a number.
-use Rattle.std.proofs.Common.{◌≡◌, ◌∙◌, ◌++◌, ◌+◌, ◌*◌, ◌/◌, ◌^◌, ◌<◌, ◌≤◌, ◌-◌, Bool, true, false, ℕ, zero, suc, nat_le, List, [], ◌∷◌, Option, Some, None, length, take, refl, sym, subst, ap, arith, inl, inr, if◌then◌else◌, length-append}
+use Rattle.std.proofs.Common.{◌≡◌, ◌∙◌, ◌++◌, ◌+◌, ◌*◌, ◌^◌, ◌<◌, ◌≤◌, ◌-◌, Bool, true, false, ℕ, zero, suc, nat_le, List, [], ◌∷◌, Option, Some, None, length, take, refl, sym, subst, ap, arith, inl, inr, if◌then◌else◌, length-append}
 use Rattle.std.proofs.lemmas.Grind.{common_steps}
 use Rattle.std.proofs.lemmas.Int.Digits.{number_push}
 use Rattle.std.proofs.lemmas.List.{take_all, take-append-le}
-use Rattle.std.proofs.lemmas.Bool.{cases_lt, le-leb, lt-leb}
+use Rattle.std.proofs.lemmas.Bool.{cases_lt, lt-leb}
 use Rattle.std.proofs.Math.Nat.{pow-suc}
 use Rattle.std.specs.Int.Digits.{number_from_digits}
 use Rattle.lb_base.specs.Decimals.{fraction_from_digits}
@@ -69,13 +69,13 @@ module _ (ds : List ℕ) (d : ℕ) where
     one_more : counted u negative whole (scale_of (ds ++ d ∷ [])) (number_of (ds ++ d ∷ [])) given ≡ then_counted (nat_le (10 ^ 17) (scale_of ds))
     one_more =
         elim (cases_lt (length ds) 17) [
-          inl h ↦
-            ap (λ s. counted u negative whole s (number_of (ds ++ d ∷ [])) given) (short_scale h)
-            ∙ ap (λ v. counted u negative whole (10 * scale_of ds) v given) (short_number h)
-            ∙ ap then_counted (sym (short_open h))
+          | inl h ↦
+              ap (λ s. counted u negative whole s (number_of (ds ++ d ∷ [])) given) (short_scale h)
+              ∙ ap (λ v. counted u negative whole (10 * scale_of ds) v given) (short_number h)
+              ∙ ap then_counted (sym (short_open h))
           | inr h ↦
-            ap (λ (l : List ℕ). counted u negative whole (10 ^ length l) (number_from_digits 10 l) given) (long_same h)
-            ∙ ap then_counted (sym (long_full h))
+              ap (λ (l : List ℕ). counted u negative whole (10 ^ length l) (number_from_digits 10 l) given) (long_same h)
+              ∙ ap then_counted (sym (long_full h))
         ]
 
 all_digits : (u : Uses) (negative : Bool) (whole : ℕ) (ds : List ℕ) (given : List Given) → fraction u negative whole ds given ≡ counted u negative whole (scale_of ds) (number_of ds) given

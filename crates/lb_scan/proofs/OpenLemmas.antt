@@ -1,11 +1,11 @@
 -- A stage that is not over has no value, and gives nothing back.
-use Rattle.std.proofs.Common.{◌≡◌, ◌<◌, ℕ, List, [], ◌∷◌, None, drop, refl, ap, sym, subst, codes, false, true}
+use Rattle.std.proofs.Common.{◌≡◌, ℕ, List, [], None, refl, ap, codes, false, true}
 use Rattle.lb_model_grammar.specs.declared.given.Given.{Given}
 use Rattle.lb_model_grammar.specs.declared.given.Scanned.{Scanned}
 use Rattle.lb_model_grammar.specs.declared.given.Scanned.TheVariants as scanned
 use Rattle.lb_model_grammar.specs.declared.given.Want.{Want}
 use Rattle.lb_model_grammar.specs.Dimensions.{Unit_of, Uses, length_behind}
-use Rattle.lb_model_grammar.specs.Scans.{Meant, after_of, letters, one_of, value_of}
+use Rattle.lb_model_grammar.specs.Scans.{Meant, after_of, one_of, value_of}
 use Rattle.lb_model_grammar.specs.Scans.Meant.{Open, Ended}
 use Rattle.lb_scan.specs.declared.length.Length.{Length as Lengths}
 use Rattle.lb_scan.specs.declared.length.Length.TheVariants as length

@@ -1,5 +1,5 @@
 -- Units by their letters: one letter more, and what is no letter.
-use Rattle.std.proofs.Common.{◌≡◌, ◌∙◌, ◌==◌, Bool, true, false, ℕ, List, [], ◌∷◌, Option, Some, None, refl, sym, ap, if◌then◌else◌}
+use Rattle.std.proofs.Common.{◌≡◌, ◌∙◌, ◌==◌, Bool, true, false, ℕ, List, [], ◌∷◌, Some, None, refl, ap, if◌then◌else◌}
 use Rattle.lb_base.specs.declared.token.Tok.{Tok}
 use Rattle.lb_base.specs.declared.token.Tok.TheVariants.{Char, Word, Active, Param}
 use Rattle.lb_model_grammar.specs.declared.given.Given.{Given}

@@ -1,5 +1,5 @@
 -- A step of the walks of a history: a struct of one field that has no bytes. Assumes `Logic`.
-use Rattle.std.proofs.Common.{◌≡◌, List, [], ◌∷◌, refl}
+use Rattle.std.proofs.Common.{List, [], ◌∷◌, refl}
 use seplogic.Ra.Ura.{Ura}
 use mir.Val.{Val, vstruct, vcons, vnil}
 use types.Logic.{Logic}

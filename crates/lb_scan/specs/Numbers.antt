@@ -1,5 +1,5 @@
 -- What the stages of a scan of a number mean.
-use Rattle.std.specs.Prelude.{Bool, List, [], ◌∷◌}
+use Rattle.std.specs.Prelude.{List, ◌∷◌}
 use Rattle.lb_base.specs.declared.fault.Kind.TheVariants.{NumberMissing}
 use Rattle.lb_model_grammar.specs.declared.given.Given.{Given}
 use Rattle.lb_model_grammar.specs.declared.given.Scanned.{Scanned}

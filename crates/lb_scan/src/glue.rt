@@ -83,7 +83,10 @@ pub(crate) fn plus(glue: Glue, count: usize, given: &Given) -> Turned
 {
     match next_letter(b"plus", count, given) {
         Progress::Letters(count) => turned(Stage::Plus(glue, count), Keeps::All),
-        Progress::Found => turned(Stage::Length(Purpose::Stretch(glue), Length::Signs(false)), Keeps::All),
+        Progress::Found => turned(
+            Stage::Length(Purpose::Stretch(glue), Length::Signs(false)),
+            Keeps::All,
+        ),
         Progress::Missing => unchanged(glue),
     }
 }
@@ -96,7 +99,10 @@ pub(crate) fn minus(glue: Glue, count: usize, given: &Given) -> Turned
 {
     match next_letter(b"minus", count, given) {
         Progress::Letters(count) => turned(Stage::Minus(glue, count), Keeps::All),
-        Progress::Found => turned(Stage::Length(Purpose::Shrink(glue), Length::Signs(false)), Keeps::All),
+        Progress::Found => turned(
+            Stage::Length(Purpose::Shrink(glue), Length::Signs(false)),
+            Keeps::All,
+        ),
         Progress::Missing => unchanged(glue),
     }
 }
@@ -165,11 +171,23 @@ fn dimension(turn: Turn) -> Turned
     match turn {
         Turn::Goes(length) => turned(Stage::Length(Purpose::Dimension, length), Keeps::Nothing),
         Turn::Alone(negative, Quantity::Dimen(dimen)) => {
-            turned(Stage::Over(Scanned::Dimen(signed_value(negative, dimen))), Keeps::Nothing)
+            turned(
+                Stage::Over(Scanned::Dimen(signed_value(negative, dimen))),
+                Keeps::Nothing,
+            )
         }
-        Turn::Alone(_, Quantity::NotOne) => turned(Stage::Failed(Kind::NumberMissing), Keeps::Nothing),
-        Turn::Alone(_, Quantity::Number(_)) => turned(Stage::Failed(Kind::NumberMissing), Keeps::Nothing),
-        Turn::Alone(_, Quantity::Skip(_)) => turned(Stage::Failed(Kind::NumberMissing), Keeps::Nothing),
+        Turn::Alone(_, Quantity::NotOne) => turned(
+            Stage::Failed(Kind::NumberMissing),
+            Keeps::Nothing,
+        ),
+        Turn::Alone(_, Quantity::Number(_)) => turned(
+            Stage::Failed(Kind::NumberMissing),
+            Keeps::Nothing,
+        ),
+        Turn::Alone(_, Quantity::Skip(_)) => turned(
+            Stage::Failed(Kind::NumberMissing),
+            Keeps::Nothing,
+        ),
         Turn::Missing(kind) => turned(Stage::Failed(kind), Keeps::Nothing),
         Turn::Fails(kind) => turned(Stage::Failed(kind), Keeps::Nothing),
         Turn::Found(_, dimen) => turned(Stage::Over(Scanned::Dimen(dimen)), Keeps::Nothing),
@@ -185,13 +203,25 @@ fn width(turn: Turn, given: &Given) -> Turned
     match turn {
         Turn::Goes(length) => turned(Stage::Length(Purpose::Width, length), Keeps::Nothing),
         Turn::Alone(negative, Quantity::Skip(glue)) => {
-            turned(Stage::Over(Scanned::Skip(signed_glue(negative, glue))), Keeps::Nothing)
+            turned(
+                Stage::Over(Scanned::Skip(signed_glue(negative, glue))),
+                Keeps::Nothing,
+            )
         }
         Turn::Alone(negative, Quantity::Dimen(dimen)) => {
-            turned(Stage::Stretchable(of_width(signed_value(negative, dimen))), Keeps::Nothing)
+            turned(
+                Stage::Stretchable(of_width(signed_value(negative, dimen))),
+                Keeps::Nothing,
+            )
         }
-        Turn::Alone(_, Quantity::NotOne) => turned(Stage::Failed(Kind::NumberMissing), Keeps::Nothing),
-        Turn::Alone(_, Quantity::Number(_)) => turned(Stage::Failed(Kind::NumberMissing), Keeps::Nothing),
+        Turn::Alone(_, Quantity::NotOne) => turned(
+            Stage::Failed(Kind::NumberMissing),
+            Keeps::Nothing,
+        ),
+        Turn::Alone(_, Quantity::Number(_)) => turned(
+            Stage::Failed(Kind::NumberMissing),
+            Keeps::Nothing,
+        ),
         Turn::Missing(kind) => turned(Stage::Failed(kind), Keeps::Nothing),
         Turn::Fails(kind) => turned(Stage::Failed(kind), Keeps::Nothing),
         Turn::Found(_, width) => turned(Stage::Stretchable(of_width(width)), Keeps::Nothing),
@@ -215,7 +245,10 @@ fn stretch(glue: Glue, turn: Turn, given: &Given) -> Turned
         Turn::Alone(_, Quantity::Skip(_)) => unchanged(glue),
         Turn::Missing(_) => unchanged(glue),
         Turn::Fails(kind) => turned(Stage::Failed(kind), Keeps::Nothing),
-        Turn::Found(order, size) => turned(Stage::Shrinkable(stretching(glue, order, size)), Keeps::Nothing),
+        Turn::Found(order, size) => turned(
+            Stage::Shrinkable(stretching(glue, order, size)),
+            Keeps::Nothing,
+        ),
         Turn::FoundBefore(order, size) => behind(shrinkable(stretching(glue, order, size), given)),
     }
 }
@@ -236,8 +269,14 @@ fn shrink(glue: Glue, turn: Turn) -> Turned
         Turn::Alone(_, Quantity::Skip(_)) => unchanged(glue),
         Turn::Missing(_) => unchanged(glue),
         Turn::Fails(kind) => turned(Stage::Failed(kind), Keeps::Nothing),
-        Turn::Found(order, size) => turned(Stage::Over(Scanned::Skip(shrinking(glue, order, size))), Keeps::Nothing),
-        Turn::FoundBefore(order, size) => turned(Stage::Over(Scanned::Skip(shrinking(glue, order, size))), Keeps::Last),
+        Turn::Found(order, size) => turned(
+            Stage::Over(Scanned::Skip(shrinking(glue, order, size))),
+            Keeps::Nothing,
+        ),
+        Turn::FoundBefore(order, size) => turned(
+            Stage::Over(Scanned::Skip(shrinking(glue, order, size))),
+            Keeps::Last,
+        ),
     }
 }
 

@@ -60,7 +60,7 @@ fn letters_end(decimal: Decimal, prefix: Prefix, given: &Given) -> Turn
 fn letter_more(decimal: Decimal, prefix: Prefix, letter: u8, given: &Given) -> Turn
     ensures { (u : Uses) (more : List AGiven) → turned_length u result given.now more
         ≡ one_of (behind_letter letter (endings prefix)) (in_unit u decimal.negative decimal.whole decimal.part)
-            (no_letter (endings prefix) (λ x. in_unit u decimal.negative decimal.whole decimal.part x (given.now ∷ more)) (u.missing AKind.UnitMissing)) more }
+        (no_letter (endings prefix) (λ x. in_unit u decimal.negative decimal.whole decimal.part x (given.now ∷ more)) (u.missing AKind.UnitMissing)) more }
 {
     match spell(prefix, letter) {
         Spelled::Whole(unit) => unit_read(decimal, unit),

@@ -1,4 +1,4 @@
-use Rattle.std.proofs.Common.{◌≡◌, ◌∙◌, ◌∷◌, ap, sym}
+use Rattle.std.proofs.Common.{◌∙◌, ◌∷◌, ap, sym}
 use Rattle.lb_scan.specs.declared.stage.Stage.TheVariants.{Shrinkable}
 use Rattle.lb_scan.specs.Stages.{stage_after, turned}
 use Rattle.lb_scan.proofs.StageLemmas.{shrinkable-space}

@@ -1,4 +1,4 @@
-use Rattle.std.proofs.Common.{◌≡◌, ◌∙◌, [], ap, codes, false, subst, true}
+use Rattle.std.proofs.Common.{◌∙◌, [], ap, codes, false, subst, true}
 use Rattle.lb_model_grammar.specs.declared.given.Scanned.TheVariants.{Found, Skip}
 use Rattle.lb_model_grammar.specs.Dimensions.{length_behind}
 use Rattle.lb_model_grammar.specs.Scans.{want_of}

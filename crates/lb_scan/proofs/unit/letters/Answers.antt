@@ -1,6 +1,5 @@
-use Rattle.std.proofs.Common.{◌≡◌, ◌∙◌, ◌∷◌, ap, sym}
+use Rattle.std.proofs.Common.{◌∙◌, ◌∷◌, ap, sym}
 use Rattle.lb_base.specs.declared.fault.Kind.TheVariants.{UnitMissing}
-use Rattle.lb_model_grammar.specs.declared.given.Given.TheVariants.{Tok}
 use Rattle.lb_model_grammar.specs.Dimensions.{in_unit}
 use Rattle.lb_model_grammar.specs.Scans.{one_of}
 use Rattle.lb_scan.specs.Words.{behind_letter, endings, no_letter}

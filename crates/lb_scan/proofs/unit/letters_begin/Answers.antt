@@ -1,9 +1,9 @@
-use Rattle.std.proofs.Common.{◌≡◌, ◌∙◌, ◌∷◌, ap, sym}
+use Rattle.std.proofs.Common.{◌∙◌, ◌∷◌, ap, sym}
 use Rattle.lb_base.specs.declared.fault.Kind.TheVariants.{UnitMissing}
 use Rattle.lb_model_grammar.specs.declared.given.Given.TheVariants.{Tok}
 use Rattle.lb_model_grammar.specs.Dimensions.{in_unit}
 use Rattle.lb_model_grammar.specs.Scans.{one_of}
-use Rattle.lb_scan.specs.Words.{behind_letter, units_in}
+use Rattle.lb_scan.specs.Words.{units_in}
 use Rattle.lb_scan.proofs.UnitLemmas.{units-begin, units-begin-none, none-behind}
 use Rattle.lb_scan.proofs.unit.letters_begin.Goals as goal
 

@@ -1,4 +1,4 @@
-use Rattle.std.proofs.Common.{◌≡◌, ◌∙◌, ap, sym}
+use Rattle.std.proofs.Common.{◌∙◌, ap, sym}
 use Rattle.lb_model_grammar.specs.Dimensions.{meant}
 use Rattle.lb_model_grammar.specs.Scans.{after_of}
 use Rattle.lb_scan.specs.Stages.{Scanning, word_of}
