@@ -26,7 +26,12 @@ use Rattle.lb_scan.specs.Numbers.{number_after}
 -- the uses of what glue stretches and shrinks by, where all this stands behind the last whole reading
 abbrev pub shrink_uses : Glue → List Given → Uses
 shrink_uses g all =
-    record { units = glue_units; found = λ order v rest. Ended (scanned.Skip (record g { shrink = v; shrink_order = order })) rest; alone = shrink_alone g all; missing = λ kind. Ended (scanned.Skip g) all }
+    record {
+      units = glue_units;
+      found = λ order v rest. Ended (scanned.Skip (record g { shrink = v; shrink_order = order })) rest;
+      alone = shrink_alone g all;
+      missing = λ kind. Ended (scanned.Skip g) all;
+    }
 
 -- `minus` may come behind spaces
 unfoldable pub shrinkable_after : Glue → List Given → List Given → Meant Scanned
@@ -38,12 +43,18 @@ stretch_found g all negative q rest = Ended (scanned.Skip g) all
 
 abbrev pub stretch_uses : Glue → List Given → Uses
 stretch_uses g all =
-    record { units = glue_units; found = λ order v rest. shrinkable_after (record g { stretch = v; stretch_order = order }) rest rest; alone = stretch_found g all; missing = λ kind. Ended (scanned.Skip g) all }
+    record {
+      units = glue_units;
+      found = λ order v rest. shrinkable_after (record g { stretch = v; stretch_order = order }) rest rest;
+      alone = stretch_found g all;
+      missing = λ kind. Ended (scanned.Skip g) all;
+    }
 
 -- `plus` or `minus` may come behind spaces
 unfoldable pub stretchable_after : Glue → List Given → List Given → Meant Scanned
 stretchable_after g all given =
-    keyword (codes "plus") (length_behind (stretch_uses g all) false) (keyword (codes "minus") (length_behind (shrink_uses g all) false) (Ended (scanned.Skip g) all) given) given
+    keyword (codes "plus") (length_behind (stretch_uses g all) false)
+    (keyword (codes "minus") (length_behind (shrink_uses g all) false) (Ended (scanned.Skip g) all) given) given
 
 abbrev pub width_found : Bool → Quantity → List Given → Meant Scanned
 width_found negative (quantity.Skip g) rest = Ended (scanned.Skip (signed_glue negative g)) rest
@@ -102,8 +113,3 @@ pub record Stands (kind : ScanKind) (given before : List Given) (stage : Stage) 
   pub now : meant kind given ≡ stage_after (word_of kind) stage before []
   pub more : (more : List Given) → meant kind (given ++ more) ≡ stage_after (word_of kind) stage (before ++ more) more
   pub within : within (word_of kind) stage
-
--- a scan, as its kind and what it was given
-pub record Scanning : Type 0 where
-  pub kind : ScanKind
-  pub given : List Given

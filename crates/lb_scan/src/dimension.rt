@@ -123,7 +123,8 @@ pub(crate) fn length_digit(stage: &mut Length, given: &Given) -> bool
 
 #[tactic(auto, using(crate::proofs::FractionLemmas::no_digits))]
 fn sign(negative: bool, tok: &Tok) -> Turn
-    ensures { (u : Uses) (more : List AGiven) → turned_length u result (AGiven.Tok tok.now) more ≡ length_after u (Length.Signs negative) (AGiven.Tok tok.now ∷ more) }
+    ensures { (u : Uses) (more : List AGiven) →
+        turned_length u result (AGiven.Tok tok.now) more ≡ length_after u (Length.Signs negative) (AGiven.Tok tok.now ∷ more) }
 {
     match classify(tok) {
         Class::Space | Class::Plus => Turn::Goes(Length::Signs(negative)),
@@ -138,7 +139,8 @@ fn sign(negative: bool, tok: &Tok) -> Turn
 }
 
 fn signs(negative: bool, given: &Given) -> Turn
-    ensures { (u : Uses) (more : List AGiven) → turned_length u result given.now more ≡ length_after u (Length.Signs negative) (given.now ∷ more) }
+    ensures { (u : Uses) (more : List AGiven) →
+        turned_length u result given.now more ≡ length_after u (Length.Signs negative) (given.now ∷ more) }
 {
     match given {
         Given::Tok(tok) => sign(negative, tok),
@@ -148,7 +150,8 @@ fn signs(negative: bool, given: &Given) -> Turn
 }
 
 fn internal(negative: bool, given: &Given) -> Turn
-    ensures { (u : Uses) (more : List AGiven) → turned_length u result given.now more ≡ length_after u (Length.Internal negative) (given.now ∷ more) }
+    ensures { (u : Uses) (more : List AGiven) →
+        turned_length u result given.now more ≡ length_after u (Length.Internal negative) (given.now ∷ more) }
 {
     match given {
         Given::Quantity(quantity) => Turn::Alone(negative, *quantity),

@@ -78,7 +78,8 @@ fn unchanged(glue: Glue) -> Turned
 /// Letters of `plus` were read.
 pub(crate) fn plus(glue: Glue, count: usize, given: &Given) -> Turned
     requires { count < 4 }
-    ensures next { (word : List ℕ) (all more : List AGiven) → turned word result all given.now more ≡ stage_after word (Stage.Plus glue count) all (given.now ∷ more) }
+    ensures next { (word : List ℕ) (all more : List AGiven) →
+        turned word result all given.now more ≡ stage_after word (Stage.Plus glue count) all (given.now ∷ more) }
     ensures within { (word : List ℕ) → within word result.stage }
 {
     match next_letter(b"plus", count, given) {
@@ -94,7 +95,8 @@ pub(crate) fn plus(glue: Glue, count: usize, given: &Given) -> Turned
 /// Letters of `minus` were read.
 pub(crate) fn minus(glue: Glue, count: usize, given: &Given) -> Turned
     requires { count < 5 }
-    ensures next { (word : List ℕ) (all more : List AGiven) → turned word result all given.now more ≡ stage_after word (Stage.Minus glue count) all (given.now ∷ more) }
+    ensures next { (word : List ℕ) (all more : List AGiven) →
+        turned word result all given.now more ≡ stage_after word (Stage.Minus glue count) all (given.now ∷ more) }
     ensures within { (word : List ℕ) → within word result.stage }
 {
     match next_letter(b"minus", count, given) {
@@ -110,7 +112,8 @@ pub(crate) fn minus(glue: Glue, count: usize, given: &Given) -> Turned
 /// `minus` may come behind spaces.
 #[tactic(auto, unfolding(crate::specs::Stages::shrinkable_after))]
 pub(crate) fn shrinkable(glue: Glue, given: &Given) -> Turned
-    ensures next { (word : List ℕ) (all more : List AGiven) → turned word result all given.now more ≡ stage_after word (Stage.Shrinkable glue) all (given.now ∷ more) }
+    ensures next { (word : List ℕ) (all more : List AGiven) →
+        turned word result all given.now more ≡ stage_after word (Stage.Shrinkable glue) all (given.now ∷ more) }
     ensures within { (word : List ℕ) → within word result.stage }
 {
     match given {
@@ -128,7 +131,8 @@ pub(crate) fn shrinkable(glue: Glue, given: &Given) -> Turned
 /// `plus` or `minus` may come behind spaces.
 #[tactic(auto, unfolding(crate::specs::Stages::stretchable_after))]
 pub(crate) fn stretchable(glue: Glue, given: &Given) -> Turned
-    ensures next { (word : List ℕ) (all more : List AGiven) → turned word result all given.now more ≡ stage_after word (Stage.Stretchable glue) all (given.now ∷ more) }
+    ensures next { (word : List ℕ) (all more : List AGiven) →
+        turned word result all given.now more ≡ stage_after word (Stage.Stretchable glue) all (given.now ∷ more) }
     ensures within { (word : List ℕ) → within word result.stage }
 {
     match given {
@@ -150,7 +154,8 @@ pub(crate) fn stretchable(glue: Glue, given: &Given) -> Turned
 
 // A turn at what stands behind a whole reading.
 fn behind(inner: Turned) -> Turned
-    ensures next { (word : List ℕ) (all : List AGiven) (g : AGiven) (more : List AGiven) → turned word result all g more ≡ turned word inner (g ∷ more) g more }
+    ensures next { (word : List ℕ) (all : List AGiven) (g : AGiven) (more : List AGiven) →
+        turned word result all g more ≡ turned word inner (g ∷ more) g more }
     ensures stage { result.stage ≡ inner.stage }
 {
     let keeps = match inner.keeps {
@@ -165,7 +170,8 @@ fn behind(inner: Turned) -> Turned
 
 /// A dimension alone.
 fn dimension(turn: Turn) -> Turned
-    ensures next { (word : List ℕ) (all : List AGiven) (g : AGiven) (more : List AGiven) → turned word result all g more ≡ turned_length (uses_of Purpose.Dimension all) turn g more }
+    ensures next { (word : List ℕ) (all : List AGiven) (g : AGiven) (more : List AGiven) →
+        turned word result all g more ≡ turned_length (uses_of Purpose.Dimension all) turn g more }
     ensures within { (word : List ℕ) → within word result.stage }
 {
     match turn {
@@ -197,7 +203,8 @@ fn dimension(turn: Turn) -> Turned
 
 /// The width of glue.
 fn width(turn: Turn, given: &Given) -> Turned
-    ensures next { (word : List ℕ) (all more : List AGiven) → turned word result all given.now more ≡ turned_length (uses_of Purpose.Width all) turn given.now more }
+    ensures next { (word : List ℕ) (all more : List AGiven) →
+        turned word result all given.now more ≡ turned_length (uses_of Purpose.Width all) turn given.now more }
     ensures within { (word : List ℕ) → within word result.stage }
 {
     match turn {
@@ -231,7 +238,8 @@ fn width(turn: Turn, given: &Given) -> Turned
 
 /// What glue stretches by.
 fn stretch(glue: Glue, turn: Turn, given: &Given) -> Turned
-    ensures next { (word : List ℕ) (all more : List AGiven) → turned word result all given.now more ≡ turned_length (uses_of (Purpose.Stretch glue) all) turn given.now more }
+    ensures next { (word : List ℕ) (all more : List AGiven) →
+        turned word result all given.now more ≡ turned_length (uses_of (Purpose.Stretch glue) all) turn given.now more }
     ensures within { (word : List ℕ) → within word result.stage }
 {
     match turn {
@@ -255,7 +263,8 @@ fn stretch(glue: Glue, turn: Turn, given: &Given) -> Turned
 
 /// What glue shrinks by.
 fn shrink(glue: Glue, turn: Turn) -> Turned
-    ensures next { (word : List ℕ) (all : List AGiven) (g : AGiven) (more : List AGiven) → turned word result all g more ≡ turned_length (uses_of (Purpose.Shrink glue) all) turn g more }
+    ensures next { (word : List ℕ) (all : List AGiven) (g : AGiven) (more : List AGiven) →
+        turned word result all g more ≡ turned_length (uses_of (Purpose.Shrink glue) all) turn g more }
     ensures within { (word : List ℕ) → within word result.stage }
 {
     match turn {
@@ -282,7 +291,8 @@ fn shrink(glue: Glue, turn: Turn) -> Turned
 
 /// What comes of a dimension by what it is for.
 pub(crate) fn dimension_turned(purpose: Purpose, turn: Turn, given: &Given) -> Turned
-    ensures next { (word : List ℕ) (all more : List AGiven) → turned word result all given.now more ≡ turned_length (uses_of purpose all) turn given.now more }
+    ensures next { (word : List ℕ) (all more : List AGiven) →
+        turned word result all given.now more ≡ turned_length (uses_of purpose all) turn given.now more }
     ensures within { (word : List ℕ) → within word result.stage }
 {
     match purpose {

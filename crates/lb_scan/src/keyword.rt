@@ -12,7 +12,8 @@ use lb_model_grammar::{Given, Scanned};
 /// Letters of the word were read.
 pub(crate) fn letters(word: &[u8], count: usize, given: &Given) -> Turned
     requires { count < length word.now }
-    ensures next { (all more : List AGiven) → turned word.now result all given.now more ≡ stage_after word.now (Stage.Letters count) all (given.now ∷ more) }
+    ensures next { (all more : List AGiven) →
+        turned word.now result all given.now more ≡ stage_after word.now (Stage.Letters count) all (given.now ∷ more) }
     ensures within { within word.now result.stage }
 {
     match next_letter(word, count, given) {
@@ -39,7 +40,8 @@ fn missing() -> Turned
 
 /// Spaces may come before the word.
 pub(crate) fn spaces(word: &[u8], given: &Given) -> Turned
-    ensures next { (all more : List AGiven) → turned word.now result all given.now more ≡ stage_after word.now Stage.Spaces all (given.now ∷ more) }
+    ensures next { (all more : List AGiven) →
+        turned word.now result all given.now more ≡ stage_after word.now Stage.Spaces all (given.now ∷ more) }
     ensures within { within word.now result.stage }
 {
     match given {

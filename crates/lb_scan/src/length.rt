@@ -59,7 +59,8 @@ pub(crate) fn end(size: Size) -> Turn
 
 // It ends before what was given.
 fn end_before(size: Size) -> Turn
-    ensures { (u : Uses) (g : AGiven) (more : List AGiven) → turned_length u result g more ≡ sized u size.negative size.order size.size (g ∷ more) }
+    ensures { (u : Uses) (g : AGiven) (more : List AGiven) →
+        turned_length u result g more ≡ sized u size.negative size.order size.size (g ∷ more) }
 {
     if size.size < 1_073_741_824 {
         Turn::FoundBefore(size.order, signed_value(size.negative, size.size as i32))

@@ -75,7 +75,8 @@ fn close(negative: bool, value: u32, given: &Given) -> NumberTurn
 }
 
 fn sign(negative: bool, tok: &Tok) -> NumberTurn
-    ensures { (more : List AGiven) → turned_number result (AGiven.Tok tok.now) more ≡ number_after (Number.Signs negative) (AGiven.Tok tok.now ∷ more) }
+    ensures { (more : List AGiven) →
+        turned_number result (AGiven.Tok tok.now) more ≡ number_after (Number.Signs negative) (AGiven.Tok tok.now ∷ more) }
 {
     match classify(tok) {
         Class::Space | Class::Plus => NumberTurn::Goes(Number::Signs(negative)),
@@ -167,7 +168,8 @@ pub(crate) fn number_turn(stage: Number, given: &Given) -> NumberTurn
 /// Takes a digit behind digits. Whether it was one; else all is as before.
 #[inline]
 pub(crate) fn digit_of_number(base: u8, value: &mut u32, given: &Given) -> bool
-    ensures next { result ≡ true → (f : ℕ → List AGiven → Meant AScanned) (more : List AGiven) → digits base value.new f more ≡ digits base value.old f (given.now ∷ more) }
+    ensures next { result ≡ true → (f : ℕ → List AGiven → Meant AScanned) (more : List AGiven) →
+        digits base value.new f more ≡ digits base value.old f (given.now ∷ more) }
     ensures same { result ≡ false → value.new ≡ value.old }
 {
     match given {

@@ -34,7 +34,8 @@ pub struct Scan {
 }
 
 impl Model for Scan {
-    ghost use Rattle.lb_scan.specs.Stages.{Scanning, Stands};
+    ghost use Rattle.lb_scan.specs.Scanning.{Scanning};
+    ghost use Rattle.lb_scan.specs.Stages.{Stands};
 
     ghost Value = { Scanning };
 
@@ -68,7 +69,8 @@ fn word_of(kind: &ScanKind) -> &[u8]
 
 // What comes of a number.
 fn number_turned(turn: NumberTurn) -> Turned
-    ensures next { (word : List ℕ) (all : List AGiven) (g : AGiven) (more : List AGiven) → turned word result all g more ≡ turned_number turn g more }
+    ensures next { (word : List ℕ) (all : List AGiven) (g : AGiven) (more : List AGiven) →
+        turned word result all g more ≡ turned_number turn g more }
     ensures within { (word : List ℕ) → within word result.stage }
 {
     match turn {
@@ -104,7 +106,8 @@ fn is_infinite(purpose: Purpose) -> bool
 }
 
 fn length_turned(purpose: Purpose, length: &Length, given: &Given) -> Turned
-    ensures next { (word : List ℕ) (all more : List AGiven) → turned word result all given.now more ≡ stage_after word (Stage.Length purpose length.now) all (given.now ∷ more) }
+    ensures next { (word : List ℕ) (all more : List AGiven) →
+        turned word result all given.now more ≡ stage_after word (Stage.Length purpose length.now) all (given.now ∷ more) }
     ensures within { (word : List ℕ) → within word result.stage }
 {
     let turn = length_turn(is_infinite(purpose), length, given);
@@ -142,7 +145,8 @@ fn turn(word: &[u8], stage: &Stage, given: &Given) -> Turned
 // stage is as before.
 #[inline]
 fn take_digit(stage: &mut Stage, given: &Given) -> bool
-    ensures next { result ≡ true → (word : List ℕ) (all left more : List AGiven) → stage_after word stage.new left more ≡ stage_after word stage.old all (given.now ∷ more) }
+    ensures next { result ≡ true → (word : List ℕ) (all left more : List AGiven) →
+        stage_after word stage.new left more ≡ stage_after word stage.old all (given.now ∷ more) }
     ensures within { result ≡ true → (word : List ℕ) → within word stage.new }
     ensures same { result ≡ false → stage.new ≡ stage.old }
 {
@@ -188,7 +192,8 @@ fn length_want(stage: &Length) -> Want
 // What is wanted at a stage, or the fault.
 #[tactic(auto, unfolding(crate::specs::Stages::stretchable_after, crate::specs::Stages::shrinkable_after))]
 fn want_at(stage: &Stage) -> Result<Want, Kind>
-    ensures ok { IfOk result (λ want. (word : List ℕ) (all : List AGiven) → within word stage.now → want_of (stage_after word stage.now all []) ≡ Some want) }
+    ensures ok { IfOk result (λ want. (word : List ℕ) (all : List AGiven) →
+        within word stage.now → want_of (stage_after word stage.now all []) ≡ Some want) }
     ensures fault { IfErr result (λ kind. (word : List ℕ) (all : List AGiven) → stage_after word stage.now all [] ≡ Wrong kind) }
 {
     match stage {
@@ -252,7 +257,7 @@ impl Scan {
 
     /// Takes what the scan wanted, and says what it wants next: the next expanded token, the next token unexpanded, the quantity that
     /// begins with the token that was given last, the quad or the x-height of the present font, or nothing more. `End` stands for a token
-    /// where there is none. A scan that has ended stays as it is, and what is given then is given back. A fault is `NumberMissing`,
+    /// where there is none. A scan that is done stays so, and what is given then is given back. A fault is `NumberMissing`,
     /// `NumberTooBig`, `UnitMissing` or `DimenTooLarge`, and has no place. Where memory is wanting the scan is as before.
     pub fn take(&mut self, given: Given) -> Result<Want, Stop>
         ensures kind { self.new.kind ≡ self.old.kind }

@@ -25,7 +25,11 @@ pub(crate) struct Size {
 pub(crate) fn physical(decimal: Decimal, numerator: u64, denominator: u64) -> Size
     requires numerator { numerator < 2 ^ 14 }
     requires denominator { 0 < denominator }
-    ensures { result ≡ record { negative = decimal.negative; order = AnOrder.Finite; size = numerator * (65536 * decimal.whole + decimal.part) / denominator } }
+    ensures { result ≡ record {
+      negative = decimal.negative;
+      order = AnOrder.Finite;
+      size = numerator * (65536 * decimal.whole + decimal.part) / denominator;
+    } }
 {
     let value = 65_536 * u64::from(decimal.whole) + u64::from(decimal.part);
     Size {
@@ -59,7 +63,11 @@ pub(crate) fn infinite(decimal: Decimal, order: Order) -> Size
 
 /// A decimal times a dimension, cut toward 0.
 pub(crate) fn multiply(decimal: Decimal, dimen: i32) -> Size
-    ensures { result ≡ record { negative = xor decimal.negative (is_negative dimen); order = AnOrder.Finite; size = times decimal.whole decimal.part (nat_abs dimen) } }
+    ensures { result ≡ record {
+      negative = xor decimal.negative (is_negative dimen);
+      order = AnOrder.Finite;
+      size = times decimal.whole decimal.part (nat_abs dimen);
+    } }
 {
     let size = u64::from(dimen.unsigned_abs());
     Size {

@@ -71,7 +71,8 @@ fn letter_more(decimal: Decimal, prefix: Prefix, letter: u8, given: &Given) -> T
 
 /// What is given behind letters of a unit.
 pub(crate) fn letters(decimal: Decimal, prefix: Prefix, given: &Given) -> Turn
-    ensures { (u : Uses) (more : List AGiven) → turned_length u result given.now more ≡ length_after u (Length.Letters decimal prefix) (given.now ∷ more) }
+    ensures { (u : Uses) (more : List AGiven) →
+        turned_length u result given.now more ≡ length_after u (Length.Letters decimal prefix) (given.now ∷ more) }
 {
     match given {
         Given::Tok(tok) => match letter_of(tok) {
@@ -122,7 +123,8 @@ pub(crate) fn unit(infinite: bool, decimal: Decimal, given: &Given) -> Turn
 
 /// The internal dimension that stands for a unit.
 pub(crate) fn internal_unit(decimal: Decimal, given: &Given) -> Turn
-    ensures { (u : Uses) (more : List AGiven) → turned_length u result given.now more ≡ length_after u (Length.InternalUnit decimal) (given.now ∷ more) }
+    ensures { (u : Uses) (more : List AGiven) →
+        turned_length u result given.now more ≡ length_after u (Length.InternalUnit decimal) (given.now ∷ more) }
 {
     match given {
         Given::Quantity(Quantity::Dimen(dimen)) => end(multiply(decimal, *dimen)),
@@ -132,7 +134,8 @@ pub(crate) fn internal_unit(decimal: Decimal, given: &Given) -> Turn
 
 /// The size of a unit of the present font.
 pub(crate) fn font_unit(decimal: Decimal, asked: Want, given: &Given) -> Turn
-    ensures { (u : Uses) (more : List AGiven) → turned_length u result given.now more ≡ length_after u (Length.FontUnit decimal asked) (given.now ∷ more) }
+    ensures { (u : Uses) (more : List AGiven) →
+        turned_length u result given.now more ≡ length_after u (Length.FontUnit decimal asked) (given.now ∷ more) }
 {
     match given {
         Given::Quantity(Quantity::Dimen(dimen)) => {

@@ -1,7 +1,8 @@
 use Rattle.std.proofs.Common.{◌∙◌, ap, sym}
 use Rattle.lb_model_grammar.specs.Dimensions.{meant}
 use Rattle.lb_model_grammar.specs.Scans.{value_of}
-use Rattle.lb_scan.specs.Stages.{Scanning, word_of}
+use Rattle.lb_scan.specs.Scanning.{Scanning}
+use Rattle.lb_scan.specs.Stages.{word_of}
 use Rattle.lb_scan.proofs.OpenLemmas.{unended}
 use Rattle.lb_scan.proofs.scan.Scan.value.Goals as goal
 
