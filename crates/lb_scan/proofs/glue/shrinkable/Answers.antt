@@ -1,0 +1,15 @@
+use Rattle.std.proofs.Common.{◌∙◌, ◌∷◌, ap, sym}
+use Rattle.lb_scan.specs.declared.stage.Stage.TheVariants.{Shrinkable}
+use Rattle.lb_scan.specs.Stages.{stage_after, turned}
+use Rattle.lb_scan.proofs.StageLemmas.{shrinkable-space}
+use Rattle.lb_scan.proofs.glue.shrinkable.Goals as goal
+
+pub returns-then-is_space-clause-next : goal.returns-then-is_space-clause-next
+returns-then-is_space-clause-next c =
+    λ word all more.
+    ap (λ r. turned word r all c.args.given.now more) c.turned.ensures
+    ∙ sym
+    (
+    ap (λ g. stage_after word (Shrinkable c.args.glue) all (g ∷ more)) c.in-Tok.is
+    ∙ shrinkable-space word c.args.glue all c.in-Tok.tok more (sym c.is_space.ensures ∙ c.if-is_space.true)
+    )

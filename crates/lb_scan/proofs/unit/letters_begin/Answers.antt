@@ -1,0 +1,43 @@
+use Rattle.std.proofs.Common.{◌∙◌, ◌∷◌, ap, sym}
+use Rattle.lb_base.specs.declared.fault.Kind.TheVariants.{UnitMissing}
+use Rattle.lb_model_grammar.specs.declared.given.Given.TheVariants.{Tok}
+use Rattle.lb_model_grammar.specs.Dimensions.{in_unit}
+use Rattle.lb_model_grammar.specs.Scans.{one_of}
+use Rattle.lb_scan.specs.Words.{units_in}
+use Rattle.lb_scan.proofs.UnitLemmas.{units-begin, units-begin-none, none-behind}
+use Rattle.lb_scan.proofs.unit.letters_begin.Goals as goal
+
+pub returns-in-Some-first_letter : goal.returns-in-Some-first_letter
+returns-in-Some-first_letter c =
+    λ u same more.
+    let d = c.args.decimal in
+    let f = in_unit u d.negative d.whole d.part in
+    sym
+    (
+    ap (λ ws. one_of ws f (u.missing UnitMissing) (Tok c.args.tok.now ∷ more)) same
+    ∙ units-begin c.args.infinite f (u.missing UnitMissing) c.args.tok.now more c.in-Some.letter (sym c.letter_of.ensures ∙ c.in-Some.is)
+    ∙ ap (λ ws. one_of ws f (u.missing UnitMissing) more) c.in-Some-first_letter.ensures
+    )
+
+pub returns-in-None-first_letter : goal.returns-in-None-first_letter
+returns-in-None-first_letter c =
+    λ u same more.
+    let d = c.args.decimal in
+    let f = in_unit u d.negative d.whole d.part in
+    sym
+    (
+    ap (λ ws. one_of ws f (u.missing UnitMissing) (Tok c.args.tok.now ∷ more)) same
+    ∙ units-begin c.args.infinite f (u.missing UnitMissing) c.args.tok.now more c.in-Some.letter (sym c.letter_of.ensures ∙ c.in-Some.is)
+    ∙ ap (λ ws. one_of ws f (u.missing UnitMissing) more) (none-behind c.in-Some.letter (units_in c.args.infinite) c.in-None-first_letter.ensures)
+    )
+
+pub returns-in-None : goal.returns-in-None
+returns-in-None c =
+    λ u same more.
+    let d = c.args.decimal in
+    let f = in_unit u d.negative d.whole d.part in
+    sym
+    (
+    ap (λ ws. one_of ws f (u.missing UnitMissing) (Tok c.args.tok.now ∷ more)) same
+    ∙ units-begin-none c.args.infinite f (u.missing UnitMissing) c.args.tok.now more (sym c.letter_of.ensures ∙ c.in-None.is)
+    )

@@ -1,0 +1,180 @@
+//! Turns of a scan of a dimension, whatever comes of it.
+ghost use Rattle.std.specs.Prelude.{◌≡◌, ◌∷◌, List, Bool, ℕ, true, false};
+ghost use Rattle.lb_model_grammar.specs.declared.given.Given.{Given as AGiven};
+ghost use Rattle.lb_model_grammar.specs.Dimensions.{Uses, behind_whole, point_or_unit};
+ghost use Rattle.lb_scan.specs.Lengths.{counted, length_after, turned_length};
+ghost use Rattle.lb_scan.specs.Words.{units_in};
+
+use crate::arith::{LIMIT, grow};
+use crate::class::{classify, digit_of, is_point};
+use crate::fraction::Fraction;
+use crate::length::{Length, Turn, close};
+use crate::number::digit_of_number;
+use crate::size::Decimal;
+use crate::unit::{font_unit, internal_unit, letters, unit};
+use lb_base::{Kind, Tok};
+use lb_model_grammar::{Class, Given};
+
+// ---- Decimals
+
+// What stands behind the whole part of a decimal.
+#[tactic(auto, using(crate::proofs::FractionLemmas::no_digits))]
+fn point_or_unit(infinite: bool, negative: bool, whole: u32, given: &Given) -> Turn
+    ensures { (u : Uses) → u.units ≡ units_in infinite → (more : List AGiven) →
+        turned_length u result given.now more ≡ point_or_unit u negative whole (given.now ∷ more) }
+{
+    let decimal = Decimal {
+        negative,
+        whole,
+        part: 0,
+    };
+    match given {
+        Given::Tok(tok) => {
+            if is_point(tok) {
+                return Turn::Goes(Length::Fraction(negative, whole, Fraction::new()));
+            }
+            unit(infinite, decimal, given)
+        }
+        Given::Quantity(_) => Turn::Missing(Kind::UnitMissing),
+        Given::End => Turn::Missing(Kind::UnitMissing),
+    }
+}
+
+fn behind_whole(infinite: bool, negative: bool, whole: u32, given: &Given) -> Turn
+    ensures { (u : Uses) → u.units ≡ units_in infinite → (more : List AGiven) →
+        turned_length u result given.now more ≡ behind_whole u negative whole (given.now ∷ more) }
+{
+    if whole < LIMIT {
+        return point_or_unit(infinite, negative, whole, given);
+    }
+    Turn::Fails(Kind::NumberTooBig)
+}
+
+fn whole(infinite: bool, negative: bool, value: u32, given: &Given) -> Turn
+    ensures { (u : Uses) → u.units ≡ units_in infinite → (more : List AGiven) →
+        turned_length u result given.now more ≡ length_after u (Length.Whole negative value) (given.now ∷ more) }
+{
+    match given {
+        Given::Tok(tok) => match digit_of(10, tok) {
+            Some(digit) => Turn::Goes(Length::Whole(negative, grow(10, value, digit))),
+            None => behind_whole(infinite, negative, value, given),
+        },
+        Given::Quantity(_) => behind_whole(infinite, negative, value, given),
+        Given::End => behind_whole(infinite, negative, value, given),
+    }
+}
+
+fn fraction(infinite: bool, negative: bool, whole: u32, digits: Fraction, given: &Given) -> Turn
+    ensures { (u : Uses) → u.units ≡ units_in infinite → (more : List AGiven) →
+        turned_length u result given.now more ≡ length_after u (Length.Fraction negative whole digits) (given.now ∷ more) }
+{
+    match given {
+        Given::Tok(tok) => match digit_of(10, tok) {
+            Some(digit) => Turn::Goes(Length::Fraction(negative, whole, digits.and(digit))),
+            None => {
+                let part = digits.nearest();
+                let decimal = Decimal {
+                    negative,
+                    whole,
+                    part,
+                };
+                unit(infinite, decimal, given)
+            }
+        },
+        Given::Quantity(_) => Turn::Missing(Kind::UnitMissing),
+        Given::End => Turn::Missing(Kind::UnitMissing),
+    }
+}
+
+// Takes a digit behind the point. Whether it was one; else all is as before.
+#[inline]
+fn digit_of_fraction(digits: &mut Fraction, given: &Given) -> bool
+    ensures next { result ≡ true → (u : Uses) (negative : Bool) (whole : ℕ) (more : List AGiven) →
+        counted u negative whole digits.new.scale digits.new.value more ≡ counted u negative whole digits.old.scale digits.old.value (given.now ∷ more) }
+    ensures same { result ≡ false → digits.new ≡ digits.old }
+{
+    match given {
+        Given::Tok(tok) => match digit_of(10, tok) {
+            Some(digit) => {
+                *digits = digits.and(digit);
+                true
+            }
+            None => false,
+        },
+        Given::Quantity(_) => false,
+        Given::End => false,
+    }
+}
+
+/// The same within a dimension.
+#[inline]
+pub(crate) fn length_digit(stage: &mut Length, given: &Given) -> bool
+    ensures next { result ≡ true → (u : Uses) (more : List AGiven) → length_after u stage.new more ≡ length_after u stage.old (given.now ∷ more) }
+    ensures same { result ≡ false → stage.new ≡ stage.old }
+{
+    match stage {
+        Length::Whole(_, value) => digit_of_number(10, value, given),
+        Length::Fraction(_, _, digits) => digit_of_fraction(digits, given),
+        _ => false,
+    }
+}
+
+// ---- The beginning
+
+#[tactic(auto, using(crate::proofs::FractionLemmas::no_digits))]
+fn sign(negative: bool, tok: &Tok) -> Turn
+    ensures { (u : Uses) (more : List AGiven) →
+        turned_length u result (AGiven.Tok tok.now) more ≡ length_after u (Length.Signs negative) (AGiven.Tok tok.now ∷ more) }
+{
+    match classify(tok) {
+        Class::Space | Class::Plus => Turn::Goes(Length::Signs(negative)),
+        Class::Minus => Turn::Goes(Length::Signs(!negative)),
+        Class::Digit(digit) => Turn::Goes(Length::Whole(negative, u32::from(digit))),
+        Class::Point => Turn::Goes(Length::Fraction(negative, 0, Fraction::new())),
+        Class::Command => Turn::Goes(Length::Internal(negative)),
+        Class::Octal | Class::Hexadecimal | Class::Quote | Class::Other => {
+            Turn::Missing(Kind::NumberMissing)
+        }
+    }
+}
+
+fn signs(negative: bool, given: &Given) -> Turn
+    ensures { (u : Uses) (more : List AGiven) →
+        turned_length u result given.now more ≡ length_after u (Length.Signs negative) (given.now ∷ more) }
+{
+    match given {
+        Given::Tok(tok) => sign(negative, tok),
+        Given::Quantity(_) => Turn::Missing(Kind::NumberMissing),
+        Given::End => Turn::Missing(Kind::NumberMissing),
+    }
+}
+
+fn internal(negative: bool, given: &Given) -> Turn
+    ensures { (u : Uses) (more : List AGiven) →
+        turned_length u result given.now more ≡ length_after u (Length.Internal negative) (given.now ∷ more) }
+{
+    match given {
+        Given::Quantity(quantity) => Turn::Alone(negative, *quantity),
+        _ => Turn::Missing(Kind::NumberMissing),
+    }
+}
+
+/// What is done where a dimension is scanned, which may be one of infinite glue, and more was given.
+pub(crate) fn length_turn(infinite: bool, stage: &Length, given: &Given) -> Turn
+    ensures { (u : Uses) → u.units ≡ units_in infinite → (more : List AGiven) →
+        turned_length u result given.now more ≡ length_after u stage.now (given.now ∷ more) }
+{
+    match stage {
+        Length::Signs(negative) => signs(*negative, given),
+        Length::Whole(negative, value) => whole(infinite, *negative, *value, given),
+        Length::Fraction(negative, whole, digits) => {
+            fraction(infinite, *negative, *whole, *digits, given)
+        }
+        Length::Unit_(decimal) => unit(infinite, *decimal, given),
+        Length::Letters(decimal, prefix) => letters(*decimal, *prefix, given),
+        Length::InternalUnit(decimal) => internal_unit(*decimal, given),
+        Length::FontUnit(decimal, asked) => font_unit(*decimal, *asked, given),
+        Length::Internal(negative) => internal(*negative, given),
+        Length::Space(size) => close(*size, given),
+    }
+}

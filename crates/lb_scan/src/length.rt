@@ -1,0 +1,86 @@
+//! How far the scan of a dimension has come, and its end.
+ghost use Rattle.std.specs.Prelude.{◌≡◌, ◌∷◌, List};
+ghost use Rattle.lb_model_grammar.specs.declared.given.Given.{Given as AGiven};
+ghost use Rattle.lb_model_grammar.specs.Dimensions.{Uses, sized};
+ghost use Rattle.lb_scan.specs.Lengths.{length_after, turned_length};
+
+use crate::arith::signed_value;
+use crate::class::is_space;
+use crate::fraction::Fraction;
+use crate::size::{Decimal, Size};
+use crate::spelling::Prefix;
+use lb_base::{Kind, Order};
+use lb_model_grammar::{Given, Quantity, Want};
+
+/// How far the scan of a dimension has come; the flag tells whether it has a minus.
+#[derive(Clone, Copy)]
+pub(crate) enum Length {
+    Signs(bool),
+    /// Digits were read.
+    Whole(bool, u32),
+    /// A point was read behind a whole number, and digits.
+    Fraction(bool, u32, Fraction),
+    /// A unit comes next.
+    Unit_(Decimal),
+    /// Letters of a unit were read.
+    Letters(Decimal, Prefix),
+    /// The internal dimension that stands for a unit comes next.
+    InternalUnit(Decimal),
+    /// The size of a unit of the present font comes next.
+    FontUnit(Decimal, Want),
+    /// The quantity of the token that was given last comes next.
+    Internal(bool),
+    /// A space may come behind the unit.
+    Space(Size),
+}
+
+/// What is done where more was given: a stage goes on, an internal quantity stands alone, something is missing, there is a fault, or the
+/// dimension ends with what was given or before it.
+#[derive(Clone, Copy)]
+pub(crate) enum Turn {
+    Goes(Length),
+    Alone(bool, Quantity),
+    Missing(Kind),
+    Fails(Kind),
+    Found(Order, i32),
+    FoundBefore(Order, i32),
+}
+
+/// The dimension ends with what was given.
+pub(crate) fn end(size: Size) -> Turn
+    ensures { (u : Uses) (g : AGiven) (more : List AGiven) → turned_length u result g more ≡ sized u size.negative size.order size.size more }
+{
+    if size.size < 1_073_741_824 {
+        Turn::Found(size.order, signed_value(size.negative, size.size as i32))
+    } else {
+        Turn::Fails(Kind::DimenTooLarge)
+    }
+}
+
+// It ends before what was given.
+fn end_before(size: Size) -> Turn
+    ensures { (u : Uses) (g : AGiven) (more : List AGiven) →
+        turned_length u result g more ≡ sized u size.negative size.order size.size (g ∷ more) }
+{
+    if size.size < 1_073_741_824 {
+        Turn::FoundBefore(size.order, signed_value(size.negative, size.size as i32))
+    } else {
+        Turn::Fails(Kind::DimenTooLarge)
+    }
+}
+
+/// What stands behind a unit, which is taken where it is a space.
+pub(crate) fn close(size: Size, given: &Given) -> Turn
+    ensures { (u : Uses) (more : List AGiven) → turned_length u result given.now more ≡ length_after u (Length.Space size) (given.now ∷ more) }
+{
+    match given {
+        Given::Tok(tok) => {
+            if is_space(tok) {
+                return end(size);
+            }
+            end_before(size)
+        }
+        Given::Quantity(_) => end_before(size),
+        Given::End => end_before(size),
+    }
+}
