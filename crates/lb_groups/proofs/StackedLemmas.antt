@@ -1,6 +1,6 @@
 -- Saves and changes, as a stack of whole states.
 use Rattle.std.proofs.Common.{◌≡◌, Bool, true, false, cond, ℕ, zero, suc, List, [], ◌∷◌, map, Some, None, refl, ap, sym, ◌∙◌, length, arith, ◌<◌, ◌≤◌, ◌+◌, min, subst}
-use Rattle.std.specs.Prelude.{Option, Result, Ok, Err, IfOk, OnOk, OnErr, not, nat_eq}
+use Rattle.std.specs.Prelude.{Option, Result, Ok, Err, OnOk, OnErr, not, nat_eq}
 use Rattle.std.specs.Option.{option_map}
 use Rattle.std.proofs.lemmas.List.{length-map}
 use Rattle.lb_values.proofs.SameCells.{cell_eq-true}

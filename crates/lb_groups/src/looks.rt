@@ -50,7 +50,11 @@ pub fn number<C: Cells>(cells: &mut C, groups: &Groups, cell: Cell) -> Result<i3
 
 /// The number that a cell holds, if it has one, as a counter may.
 #[tactic(auto, using(crate::proofs::StackedLemmas::tells_in))]
-pub fn number_if_any<C: Cells>(cells: &mut C, groups: &Groups, cell: Cell) -> Result<Option<i32>, NoMemory>
+pub fn number_if_any<C: Cells>(
+    cells: &mut C,
+    groups: &Groups,
+    cell: Cell,
+) -> Result<Option<i32>, NoMemory>
     ensures tells { TellsIn C.Cells groups.now cell optional_number result cells.new cells.old }
     ensures range { IfOk result (λ number. IfSome number (λ n. is_number n ≡ true)) }
 {
@@ -119,7 +123,11 @@ pub fn glue<C: Cells>(cells: &mut C, groups: &Groups, cell: Cell) -> Result<Glue
 
 /// The meaning of a control sequence or an active character, if it has one.
 #[tactic(auto, using(crate::proofs::StackedLemmas::tells_in))]
-pub fn meaning<C: Cells>(cells: &mut C, groups: &Groups, cell: Cell) -> Result<Option<Meaning>, NoMemory>
+pub fn meaning<C: Cells>(
+    cells: &mut C,
+    groups: &Groups,
+    cell: Cell,
+) -> Result<Option<Meaning>, NoMemory>
     ensures tells { TellsIn C.Cells groups.now cell meaning_of result cells.new cells.old }
 {
     let _ = groups;
@@ -128,7 +136,11 @@ pub fn meaning<C: Cells>(cells: &mut C, groups: &Groups, cell: Cell) -> Result<O
 
 /// The tokens that a register holds, if it has any.
 #[tactic(auto, using(crate::proofs::StackedLemmas::tells_in))]
-pub fn tokens<C: Cells>(cells: &mut C, groups: &Groups, cell: Cell) -> Result<Option<Shared<TokList>>, NoMemory>
+pub fn tokens<C: Cells>(
+    cells: &mut C,
+    groups: &Groups,
+    cell: Cell,
+) -> Result<Option<Shared<TokList>>, NoMemory>
     ensures tells { TellsIn C.Cells groups.now cell tokens_of result cells.new cells.old }
 {
     let _ = groups;
@@ -137,7 +149,11 @@ pub fn tokens<C: Cells>(cells: &mut C, groups: &Groups, cell: Cell) -> Result<Op
 
 /// The text that a cell holds, or the bytes of a file, if there are any.
 #[tactic(auto, using(crate::proofs::StackedLemmas::tells_in))]
-pub fn text<C: Cells>(cells: &mut C, groups: &Groups, cell: Cell) -> Result<Option<Shared<Bytes>>, NoMemory>
+pub fn text<C: Cells>(
+    cells: &mut C,
+    groups: &Groups,
+    cell: Cell,
+) -> Result<Option<Shared<Bytes>>, NoMemory>
     ensures tells { TellsIn C.Cells groups.now cell text_of result cells.new cells.old }
 {
     let _ = groups;
@@ -146,7 +162,11 @@ pub fn text<C: Cells>(cells: &mut C, groups: &Groups, cell: Cell) -> Result<Opti
 
 /// The names that a cell lists, if it has a list.
 #[tactic(auto, using(crate::proofs::StackedLemmas::tells_in))]
-pub fn names<C: Cells>(cells: &mut C, groups: &Groups, cell: Cell) -> Result<Option<Shared<NameList>>, NoMemory>
+pub fn names<C: Cells>(
+    cells: &mut C,
+    groups: &Groups,
+    cell: Cell,
+) -> Result<Option<Shared<NameList>>, NoMemory>
     ensures tells { TellsIn C.Cells groups.now cell names_of result cells.new cells.old }
 {
     let _ = groups;
@@ -164,7 +184,11 @@ pub fn name<C: Cells>(cells: &mut C, groups: &Groups, cell: Cell) -> Result<Opti
 
 /// The box that a cell holds, if it has one.
 #[tactic(auto, using(crate::proofs::StackedLemmas::tells_in))]
-pub fn boxed<C: Cells>(cells: &mut C, groups: &Groups, cell: Cell) -> Result<Option<Shared<Boxed>>, NoMemory>
+pub fn boxed<C: Cells>(
+    cells: &mut C,
+    groups: &Groups,
+    cell: Cell,
+) -> Result<Option<Shared<Boxed>>, NoMemory>
     ensures tells { TellsIn C.Cells groups.now cell boxed_of result cells.new cells.old }
 {
     let _ = groups;
@@ -173,7 +197,11 @@ pub fn boxed<C: Cells>(cells: &mut C, groups: &Groups, cell: Cell) -> Result<Opt
 
 /// What a label stands for, if there is one.
 #[tactic(auto, using(crate::proofs::StackedLemmas::tells_in))]
-pub fn label<C: Cells>(cells: &mut C, groups: &Groups, cell: Cell) -> Result<Option<Shared<LabelPair>>, NoMemory>
+pub fn label<C: Cells>(
+    cells: &mut C,
+    groups: &Groups,
+    cell: Cell,
+) -> Result<Option<Shared<LabelPair>>, NoMemory>
     ensures tells { TellsIn C.Cells groups.now cell label_of result cells.new cells.old }
 {
     let _ = groups;
@@ -182,7 +210,11 @@ pub fn label<C: Cells>(cells: &mut C, groups: &Groups, cell: Cell) -> Result<Opt
 
 /// The stored checkpoint of a chapter, if there is one.
 #[tactic(auto, using(crate::proofs::StackedLemmas::tells_in))]
-pub fn checkpoint<C: Cells>(cells: &mut C, groups: &Groups, cell: Cell) -> Result<Option<Shared<CounterList>>, NoMemory>
+pub fn checkpoint<C: Cells>(
+    cells: &mut C,
+    groups: &Groups,
+    cell: Cell,
+) -> Result<Option<Shared<CounterList>>, NoMemory>
     ensures tells { TellsIn C.Cells groups.now cell checkpoint_of result cells.new cells.old }
 {
     let _ = groups;
@@ -200,7 +232,11 @@ pub fn form<C: Cells>(cells: &mut C, groups: &Groups, cell: Cell) -> Result<Opti
 
 /// The style of pages that a cell holds, if it has one.
 #[tactic(auto, using(crate::proofs::StackedLemmas::tells_in))]
-pub fn page_style<C: Cells>(cells: &mut C, groups: &Groups, cell: Cell) -> Result<Option<PageStyle>, NoMemory>
+pub fn page_style<C: Cells>(
+    cells: &mut C,
+    groups: &Groups,
+    cell: Cell,
+) -> Result<Option<PageStyle>, NoMemory>
     ensures tells { TellsIn C.Cells groups.now cell page_style_of result cells.new cells.old }
 {
     let _ = groups;

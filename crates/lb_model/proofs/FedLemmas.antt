@@ -1,6 +1,5 @@
 -- What a loop over a feed comes to where a token is a fault.
 use Rattle.std.proofs.Common.{◌≡◌, ◌∙◌, Bool, true, List, [], refl}
-use Rattle.std.specs.Prelude.{Option}
 use Rattle.std.specs.Option.{option_map}
 use Rattle.lb_base.specs.declared.fault.Stop.{Stop}
 use Rattle.lb_base.specs.declared.fault.Stop.TheVariants.{Memory, Fault, At}

@@ -1,5 +1,5 @@
 -- Two meanings are the same exactly where they are equal.
-use Rattle.std.proofs.Common.{rules, ◌≡◌, ◌∙◌, ◌↔◌, Bool, true, false, ℕ, List, [], ◌∷◌, Some, None, refl, ap, subst, sym}
+use Rattle.std.proofs.Common.{rules, ◌≡◌, ◌↔◌, Bool, true, false, ℕ, List, [], ◌∷◌, Some, None, refl, ap, subst, sym}
 use Rattle.std.specs.Prelude.{◌&&◌, Option, nat_eq}
 use Rattle.std.specs.Bool.{IsTrue}
 use Rattle.std.specs.Cmp.Lexicographic.{pointwise, same_text}

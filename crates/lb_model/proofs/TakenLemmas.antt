@@ -16,7 +16,7 @@ use Rattle.lb_model.specs.declared.place.Got.{Got}
 use Rattle.lb_model.specs.declared.place.Got.TheVariants.{Tok as GotTok, End as GotEnd, Fault as GotFault}
 use Rattle.lb_model.specs.Configs.{Config, Taking, looks_of_meaning, looks_of_plain, taken_by}
 use Rattle.lb_model.specs.Meanings.{category_in}
-use Rattle.lb_model.specs.Readings.{Noted, Took, behind_got, failed, looks_as, looks_behind, looks_of_got, looks_taken, looks_with_meaning, looks_within, noting, taken, taken_as, taken_within, unless_fault, whole}
+use Rattle.lb_model.specs.Readings.{Noted, behind_got, failed, looks_as, looks_behind, looks_of_got, looks_taken, looks_with_meaning, looks_within, noting, taken, taken_as, taken_within, unless_fault, whole}
 use Rattle.lb_model.specs.Settings.{Notes, noted, noted_all}
 use Rattle.lb_model.specs.Sources.{source_token, stepped}
 use Rattle.lb_model.specs.Stops.{MayStopAt}

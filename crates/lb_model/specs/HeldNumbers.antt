@@ -1,8 +1,7 @@
 -- The values of cells that are given as numbers (TeXbook, chapter 24; tex.web, part 49): codes, counts, dimensions, counters and the numbers
 -- of the kernel.
-use Rattle.std.specs.Prelude.{ℕ, cond, Bool, nat_lt, Option, None, Some, ℤ, pos, negsuc}
+use Rattle.std.specs.Prelude.{cond, Bool, nat_lt, Option, None, Some, ℤ, pos, negsuc}
 use Rattle.std.specs.Option.{option_map}
-use Rattle.lb_base.specs.declared.token.Category.{Category}
 use Rattle.lb_rows.specs.declared.parameter.ParameterKind.{ParameterKind}
 use Rattle.lb_rows.specs.declared.parameter.ParameterKind.TheVariants as parameter
 use Rattle.lb_rows.specs.Parameters.{parameter_kind}

@@ -1,5 +1,5 @@
 -- Groups: the present state and an earlier whole state for each open group (TeXbook, chapter 7; tex.web, part 19). The code keeps saves.
-use Rattle.std.specs.Prelude.{◌+◌, ◌≤◌, ◌==◌, length, Bool, true, false, ℕ, zero, suc, cond, List, [], ◌∷◌, map, Option}
+use Rattle.std.specs.Prelude.{◌+◌, ◌≤◌, length, Bool, true, ℕ, zero, suc, cond, List, [], ◌∷◌, map, Option}
 use Rattle.std.specs.Option.{option_map}
 use Rattle.lb_values.specs.declared.cell.Cell.{Cell}
 use Rattle.lb_values.specs.declared.reach.Reach.{Reach}

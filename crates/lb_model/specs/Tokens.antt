@@ -3,7 +3,6 @@ use Rattle.std.specs.Prelude.{ℕ, suc, zero, ◌+◌, ◌-◌, ◌*◌, ◌==�
 use Rattle.lb_base.specs.declared.token.Category.{Category}
 use Rattle.lb_base.specs.declared.token.Category.TheVariants.{Escape, EndOfLine, Superscript, Ignored, Space, Letter, Active, Comment, Invalid}
 use Rattle.lb_base.specs.declared.token.Tok.TheVariants as token
-use Rattle.lb_values.specs.declared.cell.Cell.{Cell}
 use Rattle.lb_values.specs.declared.cell.Cell.TheVariants.{Cat}
 use Rattle.lb_values.specs.declared.value.Value.{Value}
 use Rattle.lb_model.specs.declared.reading.Read.{Read}

@@ -1,5 +1,4 @@
-use Rattle.std.proofs.Common.{◌≡◌, sym}
-use Rattle.lb_groups.proofs.StackedLemmas.{standing-closed, count_stands}
+use Rattle.lb_groups.proofs.StackedLemmas.{standing-closed}
 use Rattle.lb_groups.proofs.changes.close_group.Goals as goal
 
 pub returns-in-Some-clause-standing : goal.returns-in-Some-clause-standing

@@ -1,4 +1,4 @@
-use Rattle.std.proofs.Common.{◌≡◌, ◌<◌, ◌≤◌, length, sym, subst, arith}
+use Rattle.std.proofs.Common.{◌<◌, length, sym, subst, arith}
 use Rattle.lb_groups.proofs.StackedLemmas.{more_saves}
 use Rattle.lb_groups.proofs.changes.put_all_back.Goals as goal
 

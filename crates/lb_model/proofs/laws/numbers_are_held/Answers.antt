@@ -1,4 +1,4 @@
-use Rattle.std.proofs.Common.{◌≡◌, zero, suc, slice_get, ℕ, ℤ, pos, negsuc, cond, nat_lt, Bool, true, false, Option, Some, None, option_map, refl, sym, ap, subst, ◌∙◌}
+use Rattle.std.proofs.Common.{◌≡◌, zero, suc, slice_get, ℕ, ℤ, pos, negsuc, cond, nat_lt, Bool, true, false, Option, Some, None, option_map, refl, sym, ap, subst}
 use Rattle.lb_base.specs.declared.token.Category.{Category}
 use Rattle.lb_rows.specs.declared.parameter.Parameter.{Parameter}
 use Rattle.lb_rows.specs.declared.parameter.ParameterKind.{ParameterKind}
@@ -9,7 +9,7 @@ use Rattle.lb_values.specs.declared.cell.Cell.{Cell}
 use Rattle.lb_values.specs.declared.cell.Cell.TheVariants.{Cat, Lc, Uc, Sf, Count, Dimen, Par, Counter, Fresh, Body, Toc, Matter, Style, Size}
 use Rattle.lb_values.specs.declared.value.Value.{Value}
 use Rattle.lb_values.specs.declared.value.Value.TheVariants as value
-use Rattle.lb_model.specs.HeldNumbers.{held_as, code_value, parameter_value, held_of, number_in}
+use Rattle.lb_model.specs.HeldNumbers.{code_value, parameter_value, held_of, number_in}
 use Rattle.lb_model.specs.Ranges.{fits, fits_parameter, is_number, is_dimension}
 use Rattle.lb_model.proofs.laws.numbers_are_held.Goals as goal
 

@@ -1,4 +1,4 @@
-use Rattle.std.proofs.Common.{◌≡◌, ◌∙◌, Some, false, ap, reverse, sym}
+use Rattle.std.proofs.Common.{◌∙◌, ap, reverse, sym}
 use Rattle.std.specs.Prelude.{nat_eq}
 use Rattle.std.proofs.lemmas.List.{length-reverse}
 use Rattle.lb_groups.specs.Open.{innermost}
