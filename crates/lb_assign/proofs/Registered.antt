@@ -1,5 +1,5 @@
 -- What registers, parameters and codes are set to is in their range, and they may be set to it.
-use Rattle.std.proofs.Common.{◌≡◌, ◌∙◌, Bool, true, false, cond, ℤ, Some, None, refl, ap, sym, subst}
+use Rattle.std.proofs.Common.{◌≡◌, Bool, true, false, cond, ℤ, Some, None, refl, sym, subst}
 use Rattle.std.specs.Prelude.{Option, not, ◌&&◌}
 use Rattle.lb_base.specs.declared.glue.Glue.{Glue}
 use Rattle.lb_base.specs.declared.node.Boxed.{Boxed as Box}
@@ -13,10 +13,10 @@ use Rattle.lb_values.specs.declared.cell.Cell.{Cell}
 use Rattle.lb_values.specs.declared.cell.Cell.TheVariants.{Word, Active, Cat, Lc, Uc, Sf, Count, Dimen, Skip, Toks, Boxed, Par, Counter, Counters, Resets, Fresh, Label, Checkpoint, Only, Body, Toc, Matter, PageForm, PageStyle, ThisStyle, LeftMark, RightMark, CurrentLabel, Env, Style, Size, Job, Prefix, Steps, File}
 use Rattle.lb_values.specs.declared.value.Value.{Value}
 use Rattle.lb_values.specs.declared.value.Value.TheVariants as value
-use Rattle.lb_model.specs.Assignments.{arithmetic_kind, is_glue_kind, registered, takes, takes_box, takes_dimension, takes_glue, takes_number, takes_tokens}
+use Rattle.lb_model.specs.Assignments.{is_glue_kind, registered, takes, takes_box, takes_dimension, takes_glue, takes_number, takes_tokens}
 use Rattle.lb_assign.specs.Changes.{MaySet}
 use Rattle.lb_model.specs.HeldNumbers.{held_of, number_in}
-use Rattle.lb_model.specs.Ranges.{fits, fits_parameter, is_absent, is_date, is_date_cell, is_glue, is_of_state, is_settable}
+use Rattle.lb_model.specs.Ranges.{fits, fits_parameter, is_absent, is_date, is_glue, is_of_state, is_settable}
 
 -- ---- The cells that are set are of the state
 

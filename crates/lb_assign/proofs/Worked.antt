@@ -18,7 +18,7 @@ use Rattle.lb_model.specs.declared.arith.Arith.TheVariants.{Advance, Multiply, D
 use Rattle.lb_model.specs.Assignments.{arithmetic, arithmetic_as, arithmetic_at, arithmetic_kind, dimension_worked, glue_added, glue_by, glue_value, glue_worked, number_worked}
 use Rattle.lb_model.specs.HeldNumbers.{held_as}
 use Rattle.lb_model.specs.Kinds.{dimension_of, glue_of, number_of}
-use Rattle.lb_model.specs.Ranges.{fits, fits_parameter, is_absent, is_dimension, is_glue, is_number, is_of_state}
+use Rattle.lb_model.specs.Ranges.{fits, fits_parameter, is_absent, is_dimension, is_glue, is_number}
 use Rattle.lb_assign.specs.Changes.{MaySet}
 use Rattle.lb_assign.proofs.Registered.{by_test, may_set}
 

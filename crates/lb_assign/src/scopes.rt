@@ -53,7 +53,11 @@ fn is_innermost(kind: GroupKind, groups: &Groups) -> bool
 
 /// Closes the innermost group, where it is of this kind, and takes back what the cells held as it was opened, but for global changes.
 /// `GroupExtra` where it is of another kind or none is open, and all is as it was. Takes no memory.
-pub fn close_group<C: Cells>(cells: &mut C, groups: &mut Groups, kind: GroupKind) -> Result<(), Stop>
+pub fn close_group<C: Cells>(
+    cells: &mut C,
+    groups: &mut Groups,
+    kind: GroupKind,
+) -> Result<(), Stop>
     requires standing { (p : Setting) → C.agrees cells.old p → Standing groups.old (C.meaning cells.old p) }
     ensures answer { result ≡ closing (is_innermost kind (innermost groups.old)) }
     ensures narrows { (p : Setting) → C.agrees cells.new p → C.agrees cells.old p }

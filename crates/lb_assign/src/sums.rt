@@ -17,6 +17,7 @@ use lb_values::Value;
 
 /// The size at which numbers, and at which lengths are too large.
 const NUMBER_LIMIT: u64 = 1 << 31;
+
 const LENGTH_LIMIT: u64 = 1 << 30;
 
 /// What a cell of this kind holds once it is advanced, multiplied or divided, where it holds `now`; none where that is out of its range, the
@@ -212,7 +213,12 @@ fn sums_added(glue: Glue, by: Glue) -> Sums
 {
     Sums {
         width: sum(glue.width, by.width),
-        stretch: part_added(glue.stretch, glue.stretch_order, by.stretch, by.stretch_order),
+        stretch: part_added(
+            glue.stretch,
+            glue.stretch_order,
+            by.stretch,
+            by.stretch_order,
+        ),
         shrink: part_added(glue.shrink, glue.shrink_order, by.shrink, by.shrink_order),
     }
 }

@@ -1,6 +1,6 @@
 -- The innermost conditional and those around it.
-use Rattle.std.proofs.Common.{◌≡◌, Bool, true, false, ℕ, suc, List, [], ◌∷◌, Some, length, refl, ap, arith}
-use Rattle.std.specs.Prelude.{Option, Result, nat_eq}
+use Rattle.std.proofs.Common.{◌≡◌, Bool, false, ℕ, suc, List, [], ◌∷◌, Some, length, refl, ap, arith}
+use Rattle.std.specs.Prelude.{Result, nat_eq}
 use Rattle.lb_base.specs.declared.fault.Stop.{Stop}
 use Rattle.lb_model.specs.declared.feed.Feed.{Ghosts}
 use Rattle.lb_model.specs.declared.open.Conditional.{Conditional}

@@ -6,8 +6,8 @@ mod commands;
 mod skipping;
 mod state;
 
+pub use choice::test;
 pub use commands::expandable;
 pub use lb_model_grammar::{Branch, CondKind, Rel, Sought, Stopper};
 pub use skipping::{mark_of, skip, skip_to};
 pub use state::{CondState, may_end};
-pub use choice::test;

@@ -1,14 +1,13 @@
-use Rattle.std.proofs.Common.{◌≡◌, ◌∙◌, ◌∷◌, ◌≤◌, ◌+◌, [], List, true, ap, sym, refl, arith}
-use Rattle.std.specs.Option.{option_map}
+use Rattle.std.proofs.Common.{◌≡◌, ◌∙◌, ◌≤◌, ◌+◌, [], List, true, ap, sym, refl, arith}
 use Rattle.lb_base.specs.declared.fault.Kind.TheVariants.{IfOpen}
 use Rattle.lb_base.specs.declared.token.Tok.{Tok}
 use Rattle.lb_model.specs.Conditionals.{looks_skipped, skipped}
-use Rattle.lb_model.specs.Configs.{Config, asked, meaning_now, taken_by}
+use Rattle.lb_model.specs.Configs.{Config, asked, meaning_now}
 use Rattle.lb_model.specs.Expandables.{mark_of}
 use Rattle.lb_model.specs.Meanings.{meaning_in}
 use Rattle.lb_model.specs.Readings.{looks_with_meaning, noting, whole}
 use Rattle.lb_model.specs.Settings.{Setting}
-use Rattle.lb_model.specs.declared.place.Got.TheVariants.{End as GotEnd, Tok as GotTok}
+use Rattle.lb_model.specs.declared.place.Got.TheVariants.{End as GotEnd}
 use Rattle.lb_model.proofs.FedLemmas.{fault-marked}
 use Rattle.lb_model.proofs.TakenLemmas.{meaning-none, meaning-token, reading, reading-done, reading-end, reading-token}
 use Rattle.lb_model_grammar.specs.Conditionals.{stop, stop_as}

@@ -1,6 +1,6 @@
 use Rattle.std.proofs.Common.{◌≡◌, ◌≤◌, ◌+◌, true}
 use Rattle.lb_base.specs.declared.token.Tok.{Tok}
-use Rattle.lb_model.specs.Configs.{Config, meaning_now}
+use Rattle.lb_model.specs.Configs.{meaning_now}
 use Rattle.lb_model.specs.Expandables.{mark_of}
 use Rattle.lb_model.specs.Readings.{looks_with_meaning}
 use Rattle.lb_model.specs.Settings.{Setting}
