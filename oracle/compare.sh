@@ -8,7 +8,8 @@ export PYTHONDONTWRITEBYTECODE=1
 paper=$folder/lb_tests_paper
 pages=$folder/lb_tests_pages
 text=$folder/lb_tests_text
-mkdir -p "$paper/data" "$pages" "$text/data"
+scan=$folder/lb_tests_scan
+mkdir -p "$paper/data" "$pages" "$text/data" "$scan"
 
 # The commands of a crate are given on standard input; its answers come from a script.
 answer() {
@@ -22,7 +23,8 @@ python3 "$here/text_fonts.py" "$text/data" || exit 1
 { python3 "$here/paper_cases.py" "$paper/data" && echo clear && python3 "$here/marks_cases.py"; } | answer "$paper" paper.py
 { python3 "$here/page_cases.py" && echo clear && python3 "$here/paragraph_cases.py"; } | answer "$pages" pages.py
 python3 "$here/text_cases.py" "$text/data" | answer "$text" text.py
-for crate in lb_tests_paper lb_tests_pages lb_tests_text; do
+python3 "$here/scan_cases.py" | answer "$scan" scan.py
+for crate in lb_tests_paper lb_tests_pages lb_tests_text lb_tests_scan; do
     stored=$here/../crates/$crate
     if [ "$1" = --store ]; then
         if [ -d "$folder/$crate/data" ]; then
