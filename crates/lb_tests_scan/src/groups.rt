@@ -58,14 +58,15 @@ pub(crate) fn close<C: Cells>(
     Ok(stopped)
 }
 
-/// Shows the kinds of the open groups, the innermost first. The list has as many as are open, and its last is the innermost.
+/// Shows the kinds of the open groups, the innermost first, or `?` where the list and the groups are at odds.
 pub(crate) fn show_kinds(
     groups: &Groups,
     kinds: &[GroupKind],
     out: &mut String,
 ) -> Result<(), Stop> {
     if groups.count() != kinds.len() as u64 || groups.innermost() != kinds.last().copied() {
-        return Err(Stop::Command);
+        out.push('?')?;
+        return Ok(());
     }
     if kinds.is_empty() {
         out.push('-')?;
