@@ -1,4 +1,5 @@
-//! Cells, values and meanings as commands write them, and as they are shown.
+//! Cells, values and meanings as commands write them, and as they are shown: a cell by its kind and key, as `count:5`, `par:year` or
+//! `word:HEX`; a value as `n:NUMBER`, `d:LENGTH` or `g:` and glue; a meaning as `row:HEX`, `char:CATEGORY:CODE`, `number:CODE`, or as a cell.
 use crate::numbers::{byte, bytes, character, glue, name, number};
 use crate::shown::{show_glue, show_hex};
 use crate::stop::Stop;

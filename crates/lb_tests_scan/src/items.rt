@@ -1,4 +1,6 @@
-//! What a scan is given, as a command writes it.
+//! What a scan is given, as a command writes it: `.HEX` characters with the categories that they have at the start, `cCATEGORY:CODE` a
+//! character, `wHEX` a control sequence, `aCODE` an active character; `nNUMBER`, `dLENGTH` and `gWIDTH,STRETCH,ORDER,SHRINK,ORDER` a
+//! quantity, `q` that none begins there; `e` the end of the piece.
 use crate::numbers::{byte, bytes, character, glue, name, number};
 use crate::stop::Stop;
 use lb_base::{Category, Tok};

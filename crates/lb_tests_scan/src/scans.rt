@@ -1,5 +1,6 @@
-//! Scans: `scan KIND ITEM..` gives a new scan the items one by one, and shows what it wants behind each, what it finds, the tokens that it
-//! gives back, and how many items are left.
+//! Scans: `scan KIND ITEM..` gives a new scan the items one by one, where the kind is `number`, `dimen`, `glue` or `word:HEX`. It shows what
+//! the scan wants behind each (`x` an expanded token, `p` a plain one, `q` a quantity, `m` the quad, `s` the x-height, `.` nothing more),
+//! what it finds with the tokens that it gives back, or the fault, and how many items are left.
 use crate::items::items;
 use crate::numbers::bytes;
 use crate::shown::{show_glue, show_token};

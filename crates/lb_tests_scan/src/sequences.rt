@@ -1,4 +1,5 @@
-//! Sequences: `seq STEP..` makes the steps over a state as it is at the start, and shows what comes of each.
+//! Sequences: `seq STEP..` makes the steps over a state as it is at the start, and shows what comes of each: `ok` or the fault, or what was
+//! asked.
 ghost use Rattle.std.specs.Prelude.{◌≡◌, OnOk};
 ghost use Rattle.lb_model.specs.Settings.{Setting};
 ghost use Rattle.lb_model.specs.Stacked.{Standing};

@@ -1,4 +1,7 @@
-//! The steps of a sequence, as commands write them.
+//! The steps of a sequence, as commands write them: `o:KIND` and `c:KIND` open and close a group, `O:COUNT` opens so many simple ones;
+//! `s:CELL=VALUE:REACH` sets a cell, `a:OPERATION:CELL=VALUE:REACH` advances, multiplies or divides it, `l:HEX=MEANING:REACH` lets a control
+//! sequence have a meaning, `d:HEX=CODE:REACH` defines it as a macro of one letter; `?CELL` asks a cell, and `k` the kinds of the open groups.
+//! The reach is `l` or `g`.
 use crate::cells::{cell, halves, meaning, quantity};
 use crate::numbers::{byte, count, name};
 use crate::stop::Stop;
