@@ -27,7 +27,7 @@ fn push_text(text: &[u8], items: &mut Vec<Given>) -> Result<(), Stop> {
 }
 
 /// The token that a character is at the start, of those that stand for one.
-fn token_at_start(code: u8) -> Tok {
+pub(crate) fn token_at_start(code: u8) -> Tok {
     if code == b'~' {
         return Tok::Active(code);
     }

@@ -36,6 +36,7 @@ fn main(rt: HostRuntime) -> Result<(), Stop> {
 fn run(alloc: Global, words: &[&str], out: &mut String) -> Result<(), Stop> {
     match words.split_first() {
         Some((&"scan", words)) => scans::show(alloc, words, out),
+        Some((&"scans", words)) => scans::show_many(alloc, words, out),
         Some((&"seq", words)) => sequences::show(alloc, words, out),
         Some((&"test", words)) => choices::show(words, out),
         _ => Err(Stop::Command),

@@ -1,8 +1,9 @@
 //! Scans: `scan KIND ITEM..` gives a new scan the items one by one, where the kind is `number`, `dimen`, `glue` or `word:HEX`. It shows what
 //! the scan wants behind each (`x` an expanded token, `p` a plain one, `q` a quantity, `m` the quad, `s` the x-height, `.` nothing more),
-//! what it finds with the tokens that it gives back, or the fault, and how many items are left.
-use crate::items::items;
-use crate::numbers::bytes;
+//! what it finds with the tokens that it gives back, or the fault, and how many items are left. `scans COUNT KIND HEX`, for a bench, makes a
+//! scan of the characters of a text so many times, and shows how many were done.
+use crate::items::{items, token_at_start};
+use crate::numbers::{bytes, count as count_of};
 use crate::shown::{show_glue, show_token};
 use crate::stop::Stop;
 use lb_base::Kind;
@@ -51,6 +52,35 @@ fn kind_of(alloc: Global, word: &str) -> Result<ScanKind, Stop> {
             None => Err(Stop::Command),
         },
     }
+}
+
+/// Makes a scan of the characters of a text many times.
+pub(crate) fn show_many(alloc: Global, words: &[&str], out: &mut String) -> Result<(), Stop> {
+    let [count, kind, text] = words else {
+        return Err(Stop::Command);
+    };
+    let text = bytes(alloc, text)?;
+    let mut done = 0u64;
+    for _turn in 0..count_of(count)? {
+        if is_done(alloc, kind, text.as_slice())? {
+            done = done.saturating_add(1);
+        }
+    }
+    write!(out, "{done}")?;
+    Ok(())
+}
+
+fn is_done(alloc: Global, kind: &str, text: &[u8]) -> Result<bool, Stop> {
+    let mut scan = Scan::new(alloc, kind_of(alloc, kind)?);
+    for code in text {
+        match scan.take(Given::Tok(token_at_start(*code))) {
+            Ok(Want::Done) => return Ok(scan.value().is_some()),
+            Ok(_) => {}
+            Err(lb_base::Stop::Fault(_)) => return Ok(false),
+            Err(_) => return Err(Stop::Memory),
+        }
+    }
+    Ok(false)
 }
 
 /// Gives the items until the scan ends, and shows what it wants behind each. How it ends, and how many items are left.
