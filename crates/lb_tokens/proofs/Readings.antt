@@ -6,7 +6,7 @@ use Rattle.std.specs.Result.{IsErrAnd}
 use Rattle.lb_base.specs.declared.fault.Stop.{Stop}
 use Rattle.lb_base.specs.declared.fault.Stop.TheVariants.{Memory, Fault, At}
 use Rattle.lb_base.specs.declared.token.Category.{Category}
-use Rattle.lb_base.specs.declared.token.Category.TheVariants.{Escape, Letter, Other}
+use Rattle.lb_base.specs.declared.token.Category.TheVariants.{Escape, Ignored, Space, Letter, Other}
 use Rattle.lb_base.specs.declared.token.Tok.TheVariants as token
 use Rattle.lb_model.specs.declared.reading.Read.TheVariants as read
 use Rattle.lb_model.specs.declared.reading.ReaderState.{ReaderState}
@@ -15,7 +15,7 @@ use Rattle.lb_model.specs.Settings.{Setting, Notes}
 use Rattle.lb_model.specs.Tokens.{Character, Taken, characters, control_sequence, is_skipped, next_token, noted_codes, taken, taken_at, taken_behind}
 use Rattle.lb_tokens.specs.declared.examined.Examined.{Examined}
 use Rattle.lb_tokens.specs.declared.step.Step.{Step}
-use Rattle.lb_tokens.specs.Parts.{MayStopAtInvalid, character_of, first_character, is_escape, is_plain, taken_from}
+use Rattle.lb_tokens.specs.Parts.{MayStopAtInvalid, character_of, first_character, is_escape, is_plain, is_word_space, taken_from}
 use Rattle.lb_tokens.proofs.Words.{Splits, Notes_of, noted-append, none_noted, used_up}
 
 -- ---- What a call is told to give
@@ -165,3 +165,25 @@ pub reads_plain : (cats : ℕ → Category) (state : ReaderState) (line : List �
 reads_plain cats state line at next split h =
     takes cats state line at next split (plain_stays state next.category h)
     ∙ plain_taken next.category state (character_of next line (first_character cats (drop at line)).examined) (characters cats (drop next.after line)) h
+
+space_stays : (state : ReaderState) (k : Category) → is_word_space state k ≡ true → is_skipped state k ≡ false
+space_stays MidLine Space h = refl
+space_stays MidLine _ h = cc
+space_stays NewLine k h = cc
+space_stays SkipBlanks k h = cc
+
+space_taken : (k : Category) (state : ReaderState) (e : Character) (es : List Character) → is_word_space state k ≡ true
+    → taken_at k state e es ≡ record { read = Some (read.Tok (token.Char Space 32)); state = SkipBlanks; rest = e.rest; examined = e.examined }
+space_taken Space state e es h = refl
+space_taken k MidLine e es h = cc
+space_taken k NewLine e es h = cc
+space_taken k SkipBlanks e es h = cc
+
+abbrev pub space_between : Character → Taken
+space_between e = record { read = Some (read.Tok (token.Char Space 32)); state = SkipBlanks; rest = e.rest; examined = e.examined }
+
+pub reads_space : (cats : ℕ → Category) (state : ReaderState) (line : List ℕ) (at : ℕ) (next : Examined) → Splits cats line at next → is_word_space state next.category ≡ true
+    → Of_step cats state line at (space_between (character_of next line (first_character cats (drop at line)).examined))
+reads_space cats state line at next split h =
+    takes cats state line at next split (space_stays state next.category h)
+    ∙ space_taken next.category state (character_of next line (first_character cats (drop at line)).examined) (characters cats (drop next.after line)) h

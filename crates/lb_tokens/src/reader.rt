@@ -5,7 +5,7 @@ ghost use Rattle.lb_model.specs.declared.reading.ReaderState.TheVariants.{NewLin
 ghost use Rattle.lb_model.specs.Settings.{Setting};
 ghost use Rattle.lb_model.specs.Told.{Told};
 ghost use Rattle.lb_model.specs.Tokens.{Character, categories, is_skipped, next_token, noted_codes, read_of_end, taken_at};
-ghost use Rattle.lb_tokens.specs.Parts.{MayStopAtInvalid, character_of, is_escape, is_plain, is_token, taken_from};
+ghost use Rattle.lb_tokens.specs.Parts.{MayStopAtInvalid, character_of, is_escape, is_plain, is_token, is_word_space, taken_from};
 
 use crate::control::control_sequence;
 use crate::examined::{Examined, examine};
@@ -60,15 +60,59 @@ pub fn next<C: Cells>(alloc: Global, reader: &mut LineReader, cats: &mut C) -> R
         reader.state = ReaderState::MidLine;
         return Ok(Read::Tok(Tok::Char(first.category, first.code)));
     }
+    if is_word_space(reader.state, first.category) {
+        reader.at = first.after;
+        reader.state = ReaderState::SkipBlanks;
+        return Ok(Read::Tok(Tok::Char(Category::Space, b' ')));
+    }
+    read_from(
+        alloc,
+        reader,
+        first.code,
+        first.category,
+        first.after,
+        cats,
+    )
+}
+
+// What is read at a character of a line, of the code and category given, behind which the line goes on at `after`. It stands out of
+// line, and takes the character in registers, so that the characters that are read as they stand are not held up.
+#[inline(never)]
+fn read_from<C: Cells>(
+    alloc: Global,
+    reader: &mut LineReader,
+    code: u8,
+    category: Category,
+    after: usize,
+    cats: &mut C,
+) -> Result<Read, Stop>
+    requires place { reader.old.at ≤ length reader.old.line }
+    requires behind { after ≤ length reader.old.line }
+    ensures told { Told C.Cells cats.new cats.old }
+    ensures read { IfOk result (λ r. (p : Setting) → C.agrees cats.new p → (taken_from (categories p (C.meaning cats.old p)) reader.old.state (record { code = code; category = category; after = after }) reader.old.line).read ≡ Some r) }
+    ensures state { OnOk result ((p : Setting) → C.agrees cats.new p → (taken_from (categories p (C.meaning cats.old p)) reader.old.state (record { code = code; category = category; after = after }) reader.old.line).state ≡ reader.new.state) }
+    ensures rest { OnOk result ((p : Setting) → C.agrees cats.new p → (taken_from (categories p (C.meaning cats.old p)) reader.old.state (record { code = code; category = category; after = after }) reader.old.line).rest ≡ drop reader.new.at reader.new.line) }
+    ensures notes { OnOk result ((p : Setting) → C.agrees cats.new p → C.notes cats.new ≡ option_map (noted_codes (taken_from (categories p (C.meaning cats.old p)) reader.old.state (record { code = code; category = category; after = after }) reader.old.line).examined) (C.notes cats.old)) }
+    ensures invalid { IfErr result (λ stop. MayStopAtInvalid stop ((p : Setting) → C.agrees cats.new p → (taken_from (categories p (C.meaning cats.old p)) reader.old.state (record { code = code; category = category; after = after }) reader.old.line).read ≡ None)) }
+    ensures notes_on_invalid { IfErr result (λ stop. MayStopAtInvalid stop ((p : Setting) → C.agrees cats.new p → C.notes cats.new ≡ option_map (noted_codes (taken_from (categories p (C.meaning cats.old p)) reader.old.state (record { code = code; category = category; after = after }) reader.old.line).examined) (C.notes cats.old))) }
+    ensures same { OnErr result (reader.new ≡ reader.old) }
+    ensures line { reader.new.line ≡ reader.old.line }
+    ensures within { reader.new.at ≤ length reader.new.line }
+    ensures goes_on { OnOk result (after ≤ reader.new.at) }
+{
+    let first = Examined {
+        code,
+        category,
+        after,
+    };
     let step = step_from(alloc, reader.line.as_slice(), first, reader.state, cats)?;
     reader.at = step.at;
     reader.state = step.state;
     Ok(step.read)
 }
 
-// What is read of a line at a character that was examined. It stands out of line, so that the characters that are tokens by themselves
-// are read without its results' moves.
-#[inline(never)]
+// What is read of a line at a character that was examined.
+#[inline(always)]
 fn step_from<C: Cells>(
     alloc: Global,
     line: &[u8],
@@ -216,4 +260,12 @@ fn is_plain(category: Category) -> bool
     ensures { result ≡ is_plain category }
 {
     matches!(category, Category::Letter | Category::Other)
+}
+
+// A space behind another character than a space is read.
+#[inline(always)]
+fn is_word_space(state: ReaderState, category: Category) -> bool
+    ensures { result ≡ is_word_space state category }
+{
+    matches!((state, category), (ReaderState::MidLine, Category::Space))
 }
