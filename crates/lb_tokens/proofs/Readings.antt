@@ -6,7 +6,7 @@ use Rattle.std.specs.Result.{IsErrAnd}
 use Rattle.lb_base.specs.declared.fault.Stop.{Stop}
 use Rattle.lb_base.specs.declared.fault.Stop.TheVariants.{Memory, Fault, At}
 use Rattle.lb_base.specs.declared.token.Category.{Category}
-use Rattle.lb_base.specs.declared.token.Category.TheVariants.{Escape, Ignored, Space, Letter, Other}
+use Rattle.lb_base.specs.declared.token.Category.TheVariants.{Escape, Space, Letter, Other}
 use Rattle.lb_base.specs.declared.token.Tok.TheVariants as token
 use Rattle.lb_model.specs.declared.reading.Read.TheVariants as read
 use Rattle.lb_model.specs.declared.reading.ReaderState.{ReaderState}
@@ -165,6 +165,8 @@ pub reads_plain : (cats : ℕ → Category) (state : ReaderState) (line : List �
 reads_plain cats state line at next split h =
     takes cats state line at next split (plain_stays state next.category h)
     ∙ plain_taken next.category state (character_of next line (first_character cats (drop at line)).examined) (characters cats (drop next.after line)) h
+
+-- ---- Spaces between words
 
 space_stays : (state : ReaderState) (k : Category) → is_word_space state k ≡ true → is_skipped state k ≡ false
 space_stays MidLine Space h = refl

@@ -65,14 +65,7 @@ pub fn next<C: Cells>(alloc: Global, reader: &mut LineReader, cats: &mut C) -> R
         reader.state = ReaderState::SkipBlanks;
         return Ok(Read::Tok(Tok::Char(Category::Space, b' ')));
     }
-    read_from(
-        alloc,
-        reader,
-        first.code,
-        first.category,
-        first.after,
-        cats,
-    )
+    read_from(alloc, reader, first.code, first.category, first.after, cats)
 }
 
 // What is read at a character of a line, of the code and category given, behind which the line goes on at `after`. It stands out of

@@ -1,4 +1,4 @@
-use Rattle.std.proofs.Common.{◌∙◌, ◌≤◌, Some, ap, sym, subst, drop, length, arith}
+use Rattle.std.proofs.Common.{◌∙◌, ◌≤◌, Some, ap, sym, subst, length, arith}
 use Rattle.std.specs.Option.{option_map}
 use Rattle.std.proofs.lemmas.List.{drop_all}
 use Rattle.lb_model.specs.Tokens.{categories, noted_codes}
