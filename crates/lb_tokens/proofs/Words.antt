@@ -28,7 +28,7 @@ told (Ok s) A f g x y h k = λ p a. k p a ∙ ap g (sym h)
 told (Err e) A f g x y h k = tt
 
 -- the same, where the call is a reader's own
-pub read_same : {E : Type 0} (r : Result Step E) (A : Setting → Type 0) {X : Type 0} (y z : Setting → X) (of : Step → X) → IfOk r (λ s. (p : Setting) → A p → y p ≡ of s) → ((p : Setting) → A p → z p ≡ y p) → IfOk r (λ s. (p : Setting) → A p → z p ≡ of s)
+pub read_same : {T E : Type 0} (r : Result T E) (A : Setting → Type 0) {X : Type 0} (y z : Setting → X) (of : T → X) → IfOk r (λ s. (p : Setting) → A p → y p ≡ of s) → ((p : Setting) → A p → z p ≡ y p) → IfOk r (λ s. (p : Setting) → A p → z p ≡ of s)
 read_same (Ok s) A y z of h f = λ p a. f p a ∙ h p a
 read_same (Err e) A y z of h f = tt
 
@@ -185,3 +185,8 @@ word_looks cats line at next notes after split h told =
     let codes = (first_character cats (drop at line)).examined in
     let more = letters_examined (characters cats (drop next.after line)) in
     ap (option_map (noted_codes more)) told ∙ sym (noted-append codes more notes) ∙ sym (ap (λ t. option_map (noted_codes t.examined) notes) (word_behind cats line at next split h))
+
+-- the same, of what the call leaves
+pub left_same : {T E X : Type 0} (r : Result T E) (A : Setting → Type 0) (y z : Setting → X) (x : X) → OnOk r ((p : Setting) → A p → y p ≡ x) → ((p : Setting) → A p → z p ≡ y p) → OnOk r ((p : Setting) → A p → z p ≡ x)
+left_same (Ok s) A y z x h f = λ p a. f p a ∙ h p a
+left_same (Err e) A y z x h f = tt

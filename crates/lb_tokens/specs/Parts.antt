@@ -4,11 +4,13 @@ use Rattle.lb_base.specs.declared.fault.Kind.TheVariants.{Invalid}
 use Rattle.lb_base.specs.declared.fault.Stop.{Stop}
 use Rattle.lb_base.specs.declared.fault.Stop.TheVariants.{Memory, Fault, At}
 use Rattle.lb_base.specs.declared.token.Category.{Category}
-use Rattle.lb_base.specs.declared.token.Category.TheVariants.{Escape}
+use Rattle.lb_base.specs.declared.token.Category.TheVariants.{Escape, Space, Letter, Other}
 use Rattle.lb_model.specs.declared.reading.Read.{Read}
 use Rattle.lb_model.specs.declared.reading.Read.TheVariants.{Tok, EndOfLine}
+use Rattle.lb_model.specs.declared.reading.ReaderState.{ReaderState}
+use Rattle.lb_model.specs.declared.reading.ReaderState.TheVariants.{MidLine}
 use Rattle.lb_model.specs.Lines.{starts_with_byte}
-use Rattle.lb_model.specs.Tokens.{Character, cut_lines, alone, character, is_hexadecimal, code_of_digits, is_superscript, shifted}
+use Rattle.lb_model.specs.Tokens.{Character, Taken, cut_lines, alone, character, characters, is_hexadecimal, code_of_digits, is_superscript, shifted, taken}
 use Rattle.lb_tokens.specs.declared.examined.Examined.{Examined}
 
 -- ---- Lines
@@ -61,6 +63,21 @@ character_of e line examined = record { code = e.code; category = e.category; re
 abbrev pub is_escape : Category → Bool
 is_escape Escape = true
 is_escape _ = false
+
+-- whether a character is read as it stands in every state
+abbrev pub is_plain : Category → Bool
+is_plain Letter = true
+is_plain Other = true
+is_plain _ = false
+
+-- whether a character is a space that is not skipped
+abbrev pub is_word_space : ReaderState → Category → Bool
+is_word_space MidLine Space = true
+is_word_space _ _ = false
+
+-- what is read of a line at a character that was examined, with the codes examined behind it
+abbrev pub taken_from : (ℕ → Category) → ReaderState → Examined → List ℕ → Taken
+taken_from cats state first line = taken state (character_of first line [] ∷ characters cats (drop first.after line))
 
 abbrev pub is_token : Read → Bool
 is_token (Tok token) = true

@@ -5,7 +5,7 @@ ghost use Rattle.lb_model.specs.declared.reading.ReaderState.TheVariants.{NewLin
 ghost use Rattle.lb_model.specs.Settings.{Setting};
 ghost use Rattle.lb_model.specs.Told.{Told};
 ghost use Rattle.lb_model.specs.Tokens.{Character, categories, is_skipped, next_token, noted_codes, read_of_end, taken_at};
-ghost use Rattle.lb_tokens.specs.Parts.{MayStopAtInvalid, character_of, is_escape, is_token};
+ghost use Rattle.lb_tokens.specs.Parts.{MayStopAtInvalid, character_of, is_escape, is_plain, is_token, is_word_space, taken_from};
 
 use crate::control::control_sequence;
 use crate::examined::{Examined, examine};
@@ -51,10 +51,86 @@ pub fn next<C: Cells>(alloc: Global, reader: &mut LineReader, cats: &mut C) -> R
     ensures within { reader.new.at ≤ length reader.new.line }
     ensures grows { IfOk result (λ r. is_token r ≡ true → reader.old.at < reader.new.at) }
 {
-    let step = step(alloc, reader.line.as_slice(), reader.at, reader.state, cats)?;
+    if reader.at == reader.line.len() {
+        return Ok(Read::EndOfLine);
+    }
+    let first = examine(reader.line.as_slice(), reader.at, cats)?;
+    if is_plain(first.category) {
+        reader.at = first.after;
+        reader.state = ReaderState::MidLine;
+        return Ok(Read::Tok(Tok::Char(first.category, first.code)));
+    }
+    if is_word_space(reader.state, first.category) {
+        reader.at = first.after;
+        reader.state = ReaderState::SkipBlanks;
+        return Ok(Read::Tok(Tok::Char(Category::Space, b' ')));
+    }
+    read_from(alloc, reader, first.code, first.category, first.after, cats)
+}
+
+// What is read at a character of a line, of the code and category given, behind which the line goes on at `after`. It stands out of
+// line, and takes the character in registers, so that the characters that are read as they stand are not held up.
+#[inline(never)]
+fn read_from<C: Cells>(
+    alloc: Global,
+    reader: &mut LineReader,
+    code: u8,
+    category: Category,
+    after: usize,
+    cats: &mut C,
+) -> Result<Read, Stop>
+    requires place { reader.old.at ≤ length reader.old.line }
+    requires behind { after ≤ length reader.old.line }
+    ensures told { Told C.Cells cats.new cats.old }
+    ensures read { IfOk result (λ r. (p : Setting) → C.agrees cats.new p → (taken_from (categories p (C.meaning cats.old p)) reader.old.state (record { code = code; category = category; after = after }) reader.old.line).read ≡ Some r) }
+    ensures state { OnOk result ((p : Setting) → C.agrees cats.new p → (taken_from (categories p (C.meaning cats.old p)) reader.old.state (record { code = code; category = category; after = after }) reader.old.line).state ≡ reader.new.state) }
+    ensures rest { OnOk result ((p : Setting) → C.agrees cats.new p → (taken_from (categories p (C.meaning cats.old p)) reader.old.state (record { code = code; category = category; after = after }) reader.old.line).rest ≡ drop reader.new.at reader.new.line) }
+    ensures notes { OnOk result ((p : Setting) → C.agrees cats.new p → C.notes cats.new ≡ option_map (noted_codes (taken_from (categories p (C.meaning cats.old p)) reader.old.state (record { code = code; category = category; after = after }) reader.old.line).examined) (C.notes cats.old)) }
+    ensures invalid { IfErr result (λ stop. MayStopAtInvalid stop ((p : Setting) → C.agrees cats.new p → (taken_from (categories p (C.meaning cats.old p)) reader.old.state (record { code = code; category = category; after = after }) reader.old.line).read ≡ None)) }
+    ensures notes_on_invalid { IfErr result (λ stop. MayStopAtInvalid stop ((p : Setting) → C.agrees cats.new p → C.notes cats.new ≡ option_map (noted_codes (taken_from (categories p (C.meaning cats.old p)) reader.old.state (record { code = code; category = category; after = after }) reader.old.line).examined) (C.notes cats.old))) }
+    ensures same { OnErr result (reader.new ≡ reader.old) }
+    ensures line { reader.new.line ≡ reader.old.line }
+    ensures within { reader.new.at ≤ length reader.new.line }
+    ensures goes_on { OnOk result (after ≤ reader.new.at) }
+{
+    let first = Examined {
+        code,
+        category,
+        after,
+    };
+    let step = step_from(alloc, reader.line.as_slice(), first, reader.state, cats)?;
     reader.at = step.at;
     reader.state = step.state;
     Ok(step.read)
+}
+
+// What is read of a line at a character that was examined.
+#[inline(always)]
+fn step_from<C: Cells>(
+    alloc: Global,
+    line: &[u8],
+    first: Examined,
+    state: ReaderState,
+    cats: &mut C,
+) -> Result<Step, Stop>
+    requires { first.after ≤ length line.now }
+    ensures told { Told C.Cells cats.new cats.old }
+    ensures read { IfOk result (λ s. (p : Setting) → C.agrees cats.new p → (taken_from (categories p (C.meaning cats.old p)) state first line.now).read ≡ Some s.read) }
+    ensures state { IfOk result (λ s. (p : Setting) → C.agrees cats.new p → (taken_from (categories p (C.meaning cats.old p)) state first line.now).state ≡ s.state) }
+    ensures rest { IfOk result (λ s. (p : Setting) → C.agrees cats.new p → (taken_from (categories p (C.meaning cats.old p)) state first line.now).rest ≡ drop s.at line.now) }
+    ensures notes { OnOk result ((p : Setting) → C.agrees cats.new p → C.notes cats.new ≡ option_map (noted_codes (taken_from (categories p (C.meaning cats.old p)) state first line.now).examined) (C.notes cats.old)) }
+    ensures invalid { IfErr result (λ stop. MayStopAtInvalid stop ((p : Setting) → C.agrees cats.new p → (taken_from (categories p (C.meaning cats.old p)) state first line.now).read ≡ None)) }
+    ensures notes_on_invalid { IfErr result (λ stop. MayStopAtInvalid stop ((p : Setting) → C.agrees cats.new p → C.notes cats.new ≡ option_map (noted_codes (taken_from (categories p (C.meaning cats.old p)) state first line.now).examined) (C.notes cats.old))) }
+    ensures goes_on { IfOk result (λ s. first.after ≤ s.at) }
+    ensures within { IfOk result (λ s. s.at ≤ length line.now) }
+{
+    if is_escape(first.category) {
+        return Ok(control_sequence(alloc, line, first.after, cats)?);
+    }
+    if !is_skipped(state, first.category) {
+        return step_at(alloc, line, state, first);
+    }
+    step(alloc, line, first.after, state, cats)
 }
 
 // What is read of a line from a place on.
@@ -75,7 +151,7 @@ fn step<C: Cells>(
     ensures invalid { IfErr result (λ stop. MayStopAtInvalid stop ((p : Setting) → C.agrees cats.new p → (next_token (categories p (C.meaning cats.old p)) state (drop from line.now)).read ≡ None)) }
     ensures notes_on_invalid { IfErr result (λ stop. MayStopAtInvalid stop ((p : Setting) → C.agrees cats.new p → C.notes cats.new ≡ option_map (noted_codes (next_token (categories p (C.meaning cats.old p)) state (drop from line.now)).examined) (C.notes cats.old))) }
     ensures within { IfOk result (λ s. s.at ≤ length line.now) }
-    ensures grows { IfOk result (λ s. is_token s.read ≡ true → from < s.at) }
+    ensures goes_on { IfOk result (λ s. from ≤ s.at) }
 {
     let mut at = from;
     while at < line.len() {
@@ -169,4 +245,20 @@ fn is_escape(category: Category) -> bool
     ensures { result ≡ is_escape category }
 {
     matches!(category, Category::Escape)
+}
+
+// Letters and other characters are read as they stand.
+#[inline(always)]
+fn is_plain(category: Category) -> bool
+    ensures { result ≡ is_plain category }
+{
+    matches!(category, Category::Letter | Category::Other)
+}
+
+// A space behind another character than a space is read.
+#[inline(always)]
+fn is_word_space(state: ReaderState, category: Category) -> bool
+    ensures { result ≡ is_word_space state category }
+{
+    matches!((state, category), (ReaderState::MidLine, Category::Space))
 }
