@@ -1,8 +1,8 @@
 -- What the stages of a scan of a dimension mean, whatever comes of the dimension.
 use Rattle.std.specs.Prelude.{◌+◌, ◌*◌, ◌/◌, ◌^◌, Bool, ℕ, nat_le, List, [], ◌∷◌, Option, None, Some, if◌then◌else◌}
-use Rattle.lb_base.specs.declared.fault.Kind.TheVariants.{UnitMissing}
+use Rattle.lb_base.specs.declared.fault.Kind.TheVariants.{NumberMissing, UnitMissing}
 use Rattle.lb_model_grammar.specs.declared.given.Given.{Given}
-use Rattle.lb_model_grammar.specs.declared.given.Given.TheVariants.{Tok as AToken}
+use Rattle.lb_model_grammar.specs.declared.given.Given.TheVariants.{Tok as AToken, Quantity}
 use Rattle.lb_model_grammar.specs.declared.given.Scanned.{Scanned}
 use Rattle.lb_model_grammar.specs.declared.given.Want.TheVariants as want
 use Rattle.lb_model_grammar.specs.Dimensions.{Uses, behind_whole, font_unit, in_unit, internal, internal_unit, length_behind, sized, unit}
@@ -37,7 +37,8 @@ length_after u (Space s) given = space_before (sized u s.negative s.order s.size
 
 -- what comes of an end at what was given, where more is given
 abbrev pub ended_length : Uses → Ending → Given → List Given → Meant Scanned
-ended_length u (Alone negative q) g more = u.alone negative q more
+ended_length u (Alone negative) (Quantity q) more = u.alone negative q more
+ended_length u (Alone negative) g more = u.missing NumberMissing
 ended_length u (Missing kind) g more = u.missing kind
 ended_length u (Fails kind) g more = Wrong kind
 ended_length u (Found order v) g more = u.found order v more

@@ -154,7 +154,7 @@ fn internal(negative: bool, given: &Given) -> Ending
         ended_length u result given.now more ≡ length_after u (Length.Internal negative) (given.now ∷ more) }
 {
     match given {
-        Given::Quantity(quantity) => Ending::Alone(negative, *quantity),
+        Given::Quantity(_) => Ending::Alone(negative),
         _ => Ending::Missing(Kind::NumberMissing),
     }
 }

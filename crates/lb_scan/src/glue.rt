@@ -83,6 +83,7 @@ fn unchanged(glue: Glue, stage: &mut Stage) -> Keeps
 }
 
 /// Letters of `plus` were read.
+#[inline(never)]
 pub(crate) fn plus(glue: Glue, count: usize, given: &Given, stage: &mut Stage) -> Keeps
     requires { count < 4 }
     ensures next { (word : List ℕ) (all more : List AGiven) →
@@ -101,6 +102,7 @@ pub(crate) fn plus(glue: Glue, count: usize, given: &Given, stage: &mut Stage) -
 }
 
 /// Letters of `minus` were read.
+#[inline(never)]
 pub(crate) fn minus(glue: Glue, count: usize, given: &Given, stage: &mut Stage) -> Keeps
     requires { count < 5 }
     ensures next { (word : List ℕ) (all more : List AGiven) →
@@ -120,6 +122,7 @@ pub(crate) fn minus(glue: Glue, count: usize, given: &Given, stage: &mut Stage) 
 
 /// `minus` may come behind spaces.
 #[tactic(auto, unfolding(crate::specs::Stages::shrinkable_after))]
+#[inline(never)]
 pub(crate) fn shrinkable(glue: Glue, given: &Given, stage: &mut Stage) -> Keeps
     ensures next { (word : List ℕ) (all more : List AGiven) →
         turned word stage.new result all given.now more ≡ stage_after word (Stage.Shrinkable glue) all (given.now ∷ more) }
@@ -139,6 +142,7 @@ pub(crate) fn shrinkable(glue: Glue, given: &Given, stage: &mut Stage) -> Keeps
 
 /// `plus` or `minus` may come behind spaces.
 #[tactic(auto, unfolding(crate::specs::Stages::stretchable_after))]
+#[inline(never)]
 pub(crate) fn stretchable(glue: Glue, given: &Given, stage: &mut Stage) -> Keeps
     ensures next { (word : List ℕ) (all more : List AGiven) →
         turned word stage.new result all given.now more ≡ stage_after word (Stage.Stretchable glue) all (given.now ∷ more) }
@@ -189,24 +193,36 @@ pub(crate) fn going_on(purpose: Purpose) -> Keeps
 }
 
 /// A dimension alone.
-fn dimension(end: Ending, stage: &mut Stage) -> Keeps
-    ensures next { (word : List ℕ) (all : List AGiven) (g : AGiven) (more : List AGiven) →
-        turned word stage.new result all g more ≡ ended_length (uses_of Purpose.Dimension all) end g more }
+fn dimension(end: Ending, given: &Given, stage: &mut Stage) -> Keeps
+    ensures next { (word : List ℕ) (all more : List AGiven) →
+        turned word stage.new result all given.now more ≡ ended_length (uses_of Purpose.Dimension all) end given.now more }
     ensures within { (word : List ℕ) → within word stage.new }
 {
     match end {
-        Ending::Alone(negative, Quantity::Dimen(dimen)) => turned(
-            Stage::Over(Scanned::Dimen(signed_value(negative, dimen))),
-            Keeps::Nothing,
-            stage,
-        ),
-        Ending::Alone(_, Quantity::NotOne) => failed(Kind::NumberMissing, stage),
-        Ending::Alone(_, Quantity::Number(_)) => failed(Kind::NumberMissing, stage),
-        Ending::Alone(_, Quantity::Skip(_)) => failed(Kind::NumberMissing, stage),
+        Ending::Alone(negative) => dimension_alone(negative, given, stage),
         Ending::Missing(kind) => failed(kind, stage),
         Ending::Fails(kind) => failed(kind, stage),
         Ending::Found(_, dimen) => turned(Stage::Over(Scanned::Dimen(dimen)), Keeps::Nothing, stage),
         Ending::FoundBefore(_, dimen) => turned(Stage::Over(Scanned::Dimen(dimen)), Keeps::Last, stage),
+    }
+}
+
+fn dimension_alone(negative: bool, given: &Given, stage: &mut Stage) -> Keeps
+    ensures next { (word : List ℕ) (all more : List AGiven) →
+        turned word stage.new result all given.now more ≡ ended_length (uses_of Purpose.Dimension all) (Ending.Alone negative) given.now more }
+    ensures within { (word : List ℕ) → within word stage.new }
+{
+    match given {
+        Given::Quantity(Quantity::Dimen(dimen)) => turned(
+            Stage::Over(Scanned::Dimen(signed_value(negative, *dimen))),
+            Keeps::Nothing,
+            stage,
+        ),
+        Given::Quantity(Quantity::NotOne) => failed(Kind::NumberMissing, stage),
+        Given::Quantity(Quantity::Number(_)) => failed(Kind::NumberMissing, stage),
+        Given::Quantity(Quantity::Skip(_)) => failed(Kind::NumberMissing, stage),
+        Given::Tok(_) => failed(Kind::NumberMissing, stage),
+        Given::End => failed(Kind::NumberMissing, stage),
     }
 }
 
@@ -225,22 +241,34 @@ fn width(end: Ending, given: &Given, stage: &mut Stage) -> Keeps
     ensures within { (word : List ℕ) → within word stage.new }
 {
     match end {
-        Ending::Alone(negative, Quantity::Skip(glue)) => turned(
-            Stage::Over(Scanned::Skip(signed_glue(negative, glue))),
-            Keeps::Nothing,
-            stage,
-        ),
-        Ending::Alone(negative, Quantity::Dimen(dimen)) => turned(
-            Stage::Stretchable(of_width(signed_value(negative, dimen))),
-            Keeps::Nothing,
-            stage,
-        ),
-        Ending::Alone(_, Quantity::NotOne) => failed(Kind::NumberMissing, stage),
-        Ending::Alone(_, Quantity::Number(_)) => failed(Kind::NumberMissing, stage),
+        Ending::Alone(negative) => width_alone(negative, given, stage),
         Ending::Missing(kind) => failed(kind, stage),
         Ending::Fails(kind) => failed(kind, stage),
         Ending::Found(_, width) => turned(Stage::Stretchable(of_width(width)), Keeps::Nothing, stage),
         Ending::FoundBefore(_, width) => behind(stretchable(of_width(width), given, stage)),
+    }
+}
+
+fn width_alone(negative: bool, given: &Given, stage: &mut Stage) -> Keeps
+    ensures next { (word : List ℕ) (all more : List AGiven) →
+        turned word stage.new result all given.now more ≡ ended_length (uses_of Purpose.Width all) (Ending.Alone negative) given.now more }
+    ensures within { (word : List ℕ) → within word stage.new }
+{
+    match given {
+        Given::Quantity(Quantity::Skip(glue)) => turned(
+            Stage::Over(Scanned::Skip(signed_glue(negative, *glue))),
+            Keeps::Nothing,
+            stage,
+        ),
+        Given::Quantity(Quantity::Dimen(dimen)) => turned(
+            Stage::Stretchable(of_width(signed_value(negative, *dimen))),
+            Keeps::Nothing,
+            stage,
+        ),
+        Given::Quantity(Quantity::NotOne) => failed(Kind::NumberMissing, stage),
+        Given::Quantity(Quantity::Number(_)) => failed(Kind::NumberMissing, stage),
+        Given::Tok(_) => failed(Kind::NumberMissing, stage),
+        Given::End => failed(Kind::NumberMissing, stage),
     }
 }
 
@@ -251,13 +279,17 @@ fn stretch(glue: Glue, end: Ending, given: &Given, stage: &mut Stage) -> Keeps
     ensures within { (word : List ℕ) → within word stage.new }
 {
     match end {
-        Ending::Alone(negative, Quantity::Dimen(dimen)) => {
-            let glue = stretching(glue, Order::Finite, signed_value(negative, dimen));
-            turned(Stage::Shrinkable(glue), Keeps::Nothing, stage)
-        }
-        Ending::Alone(_, Quantity::NotOne) => unchanged(glue, stage),
-        Ending::Alone(_, Quantity::Number(_)) => unchanged(glue, stage),
-        Ending::Alone(_, Quantity::Skip(_)) => unchanged(glue, stage),
+        Ending::Alone(negative) => match given {
+            Given::Quantity(Quantity::Dimen(dimen)) => {
+                let glue = stretching(glue, Order::Finite, signed_value(negative, *dimen));
+                turned(Stage::Shrinkable(glue), Keeps::Nothing, stage)
+            }
+            Given::Quantity(Quantity::NotOne) => unchanged(glue, stage),
+            Given::Quantity(Quantity::Number(_)) => unchanged(glue, stage),
+            Given::Quantity(Quantity::Skip(_)) => unchanged(glue, stage),
+            Given::Tok(_) => unchanged(glue, stage),
+            Given::End => unchanged(glue, stage),
+        },
         Ending::Missing(_) => unchanged(glue, stage),
         Ending::Fails(kind) => failed(kind, stage),
         Ending::Found(order, size) => turned(
@@ -274,19 +306,23 @@ fn stretch(glue: Glue, end: Ending, given: &Given, stage: &mut Stage) -> Keeps
 }
 
 /// What glue shrinks by.
-fn shrink(glue: Glue, end: Ending, stage: &mut Stage) -> Keeps
-    ensures next { (word : List ℕ) (all : List AGiven) (g : AGiven) (more : List AGiven) →
-        turned word stage.new result all g more ≡ ended_length (uses_of (Purpose.Shrink glue) all) end g more }
+fn shrink(glue: Glue, end: Ending, given: &Given, stage: &mut Stage) -> Keeps
+    ensures next { (word : List ℕ) (all more : List AGiven) →
+        turned word stage.new result all given.now more ≡ ended_length (uses_of (Purpose.Shrink glue) all) end given.now more }
     ensures within { (word : List ℕ) → within word stage.new }
 {
     match end {
-        Ending::Alone(negative, Quantity::Dimen(dimen)) => {
-            let glue = shrinking(glue, Order::Finite, signed_value(negative, dimen));
-            turned(Stage::Over(Scanned::Skip(glue)), Keeps::Nothing, stage)
-        }
-        Ending::Alone(_, Quantity::NotOne) => unchanged(glue, stage),
-        Ending::Alone(_, Quantity::Number(_)) => unchanged(glue, stage),
-        Ending::Alone(_, Quantity::Skip(_)) => unchanged(glue, stage),
+        Ending::Alone(negative) => match given {
+            Given::Quantity(Quantity::Dimen(dimen)) => {
+                let glue = shrinking(glue, Order::Finite, signed_value(negative, *dimen));
+                turned(Stage::Over(Scanned::Skip(glue)), Keeps::Nothing, stage)
+            }
+            Given::Quantity(Quantity::NotOne) => unchanged(glue, stage),
+            Given::Quantity(Quantity::Number(_)) => unchanged(glue, stage),
+            Given::Quantity(Quantity::Skip(_)) => unchanged(glue, stage),
+            Given::Tok(_) => unchanged(glue, stage),
+            Given::End => unchanged(glue, stage),
+        },
         Ending::Missing(_) => unchanged(glue, stage),
         Ending::Fails(kind) => failed(kind, stage),
         Ending::Found(order, size) => turned(
@@ -303,15 +339,16 @@ fn shrink(glue: Glue, end: Ending, stage: &mut Stage) -> Keeps
 }
 
 /// What comes of the end of a dimension by what it is for.
+#[inline(never)]
 pub(crate) fn dimension_ended(purpose: Purpose, end: Ending, given: &Given, stage: &mut Stage) -> Keeps
     ensures next { (word : List ℕ) (all more : List AGiven) →
         turned word stage.new result all given.now more ≡ ended_length (uses_of purpose all) end given.now more }
     ensures within { (word : List ℕ) → within word stage.new }
 {
     match purpose {
-        Purpose::Dimension => dimension(end, stage),
+        Purpose::Dimension => dimension(end, given, stage),
         Purpose::Width => width(end, given, stage),
         Purpose::Stretch(glue) => stretch(glue, end, given, stage),
-        Purpose::Shrink(glue) => shrink(glue, end, stage),
+        Purpose::Shrink(glue) => shrink(glue, end, given, stage),
     }
 }

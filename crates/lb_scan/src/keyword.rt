@@ -38,6 +38,7 @@ fn missing(stage: &mut Stage) -> Keeps
 }
 
 /// Spaces may come before the word.
+#[inline(never)]
 pub(crate) fn spaces(word: &[u8], given: &Given, stage: &mut Stage) -> Keeps
     ensures next { (all more : List AGiven) →
         turned word.now stage.new result all given.now more ≡ stage_after word.now Stage.Spaces all (given.now ∷ more) }

@@ -10,7 +10,7 @@ use crate::fraction::Fraction;
 use crate::size::{Decimal, Size};
 use crate::spelling::Prefix;
 use lb_base::{Kind, Order};
-use lb_model_grammar::{Given, Quantity, Want};
+use lb_model_grammar::{Given, Want};
 
 /// How far the scan of a dimension has come; the flag tells whether it has a minus.
 #[derive(Clone, Copy)]
@@ -34,11 +34,11 @@ pub(crate) enum Length {
     Space(Size),
 }
 
-/// What is done where no stage goes on: an internal quantity stands alone, something is missing, there is a fault, or the dimension ends
+/// What is done where no stage goes on: the internal quantity that was given stands alone, something is missing, there is a fault, or the dimension ends
 /// with what was given or before it.
 #[derive(Clone, Copy)]
 pub(crate) enum Ending {
-    Alone(bool, Quantity),
+    Alone(bool),
     Missing(Kind),
     Fails(Kind),
     Found(Order, i32),
