@@ -19,7 +19,13 @@ use lb_model_grammar::{Class, Given};
 
 // What stands behind the whole part of a decimal.
 #[tactic(auto, using(crate::proofs::FractionLemmas::no_digits))]
-fn point_or_unit(infinite: bool, negative: bool, whole: u32, given: &Given, stage: &mut Length) -> Option<Ending>
+fn point_or_unit(
+    infinite: bool,
+    negative: bool,
+    whole: u32,
+    given: &Given,
+    stage: &mut Length,
+) -> Option<Ending>
     ensures { (u : Uses) → u.units ≡ units_in infinite → (more : List AGiven) →
         turned_length u stage.new result given.now more ≡ point_or_unit u negative whole (given.now ∷ more) }
 {
@@ -40,7 +46,13 @@ fn point_or_unit(infinite: bool, negative: bool, whole: u32, given: &Given, stag
     }
 }
 
-fn behind_whole(infinite: bool, negative: bool, whole: u32, given: &Given, stage: &mut Length) -> Option<Ending>
+fn behind_whole(
+    infinite: bool,
+    negative: bool,
+    whole: u32,
+    given: &Given,
+    stage: &mut Length,
+) -> Option<Ending>
     ensures { (u : Uses) → u.units ≡ units_in infinite → (more : List AGiven) →
         turned_length u stage.new result given.now more ≡ behind_whole u negative whole (given.now ∷ more) }
 {
@@ -50,7 +62,13 @@ fn behind_whole(infinite: bool, negative: bool, whole: u32, given: &Given, stage
     Some(Ending::Fails(Kind::NumberTooBig))
 }
 
-fn whole(infinite: bool, negative: bool, value: u32, given: &Given, stage: &mut Length) -> Option<Ending>
+fn whole(
+    infinite: bool,
+    negative: bool,
+    value: u32,
+    given: &Given,
+    stage: &mut Length,
+) -> Option<Ending>
     ensures { (u : Uses) → u.units ≡ units_in infinite → (more : List AGiven) →
         turned_length u stage.new result given.now more ≡ length_after u (Length.Whole negative value) (given.now ∷ more) }
 {
@@ -64,7 +82,14 @@ fn whole(infinite: bool, negative: bool, value: u32, given: &Given, stage: &mut 
     }
 }
 
-fn fraction(infinite: bool, negative: bool, whole: u32, digits: Fraction, given: &Given, stage: &mut Length) -> Option<Ending>
+fn fraction(
+    infinite: bool,
+    negative: bool,
+    whole: u32,
+    digits: Fraction,
+    given: &Given,
+    stage: &mut Length,
+) -> Option<Ending>
     ensures { (u : Uses) → u.units ≡ units_in infinite → (more : List AGiven) →
         turned_length u stage.new result given.now more ≡ length_after u (Length.Fraction negative whole digits) (given.now ∷ more) }
 {

@@ -202,8 +202,16 @@ fn dimension(end: Ending, given: &Given, stage: &mut Stage) -> Keeps
         Ending::Alone(negative) => dimension_alone(negative, given, stage),
         Ending::Missing(kind) => failed(kind, stage),
         Ending::Fails(kind) => failed(kind, stage),
-        Ending::Found(_, dimen) => turned(Stage::Over(Scanned::Dimen(dimen)), Keeps::Nothing, stage),
-        Ending::FoundBefore(_, dimen) => turned(Stage::Over(Scanned::Dimen(dimen)), Keeps::Last, stage),
+        Ending::Found(_, dimen) => turned(
+            Stage::Over(Scanned::Dimen(dimen)),
+            Keeps::Nothing,
+            stage,
+        ),
+        Ending::FoundBefore(_, dimen) => turned(
+            Stage::Over(Scanned::Dimen(dimen)),
+            Keeps::Last,
+            stage,
+        ),
     }
 }
 
@@ -244,7 +252,11 @@ fn width(end: Ending, given: &Given, stage: &mut Stage) -> Keeps
         Ending::Alone(negative) => width_alone(negative, given, stage),
         Ending::Missing(kind) => failed(kind, stage),
         Ending::Fails(kind) => failed(kind, stage),
-        Ending::Found(_, width) => turned(Stage::Stretchable(of_width(width)), Keeps::Nothing, stage),
+        Ending::Found(_, width) => turned(
+            Stage::Stretchable(of_width(width)),
+            Keeps::Nothing,
+            stage,
+        ),
         Ending::FoundBefore(_, width) => behind(stretchable(of_width(width), given, stage)),
     }
 }
@@ -340,7 +352,12 @@ fn shrink(glue: Glue, end: Ending, given: &Given, stage: &mut Stage) -> Keeps
 
 /// What comes of the end of a dimension by what it is for.
 #[inline(never)]
-pub(crate) fn dimension_ended(purpose: Purpose, end: Ending, given: &Given, stage: &mut Stage) -> Keeps
+pub(crate) fn dimension_ended(
+    purpose: Purpose,
+    end: Ending,
+    given: &Given,
+    stage: &mut Stage,
+) -> Keeps
     ensures next { (word : List ℕ) (all more : List AGiven) →
         turned word stage.new result all given.now more ≡ ended_length (uses_of purpose all) end given.now more }
     ensures within { (word : List ℕ) → within word stage.new }

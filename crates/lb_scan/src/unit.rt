@@ -57,7 +57,13 @@ fn letters_end(decimal: Decimal, prefix: Prefix, given: &Given) -> Ending
 }
 
 // A letter behind letters of a unit.
-fn letter_more(decimal: Decimal, prefix: Prefix, letter: u8, given: &Given, stage: &mut Length) -> Option<Ending>
+fn letter_more(
+    decimal: Decimal,
+    prefix: Prefix,
+    letter: u8,
+    given: &Given,
+    stage: &mut Length,
+) -> Option<Ending>
     ensures { (u : Uses) (more : List AGiven) → turned_length u stage.new result given.now more
         ≡ one_of (behind_letter letter (endings prefix)) (in_unit u decimal.negative decimal.whole decimal.part)
         (no_letter (endings prefix) (λ x. in_unit u decimal.negative decimal.whole decimal.part x (given.now ∷ more)) (u.missing AKind.UnitMissing)) more }
@@ -70,7 +76,12 @@ fn letter_more(decimal: Decimal, prefix: Prefix, letter: u8, given: &Given, stag
 }
 
 /// What is given behind letters of a unit.
-pub(crate) fn letters(decimal: Decimal, prefix: Prefix, given: &Given, stage: &mut Length) -> Option<Ending>
+pub(crate) fn letters(
+    decimal: Decimal,
+    prefix: Prefix,
+    given: &Given,
+    stage: &mut Length,
+) -> Option<Ending>
     ensures { (u : Uses) (more : List AGiven) →
         turned_length u stage.new result given.now more ≡ length_after u (Length.Letters decimal prefix) (given.now ∷ more) }
 {
@@ -107,7 +118,12 @@ fn letters_begin(infinite: bool, decimal: Decimal, tok: &Tok, stage: &mut Length
 }
 
 /// What is given where a unit may begin.
-pub(crate) fn unit(infinite: bool, decimal: Decimal, given: &Given, stage: &mut Length) -> Option<Ending>
+pub(crate) fn unit(
+    infinite: bool,
+    decimal: Decimal,
+    given: &Given,
+    stage: &mut Length,
+) -> Option<Ending>
     ensures { (u : Uses) → u.units ≡ units_in infinite → (more : List AGiven) →
         turned_length u stage.new result given.now more ≡ length_after u (Length.Unit_ decimal) (given.now ∷ more) }
 {
@@ -141,7 +157,12 @@ pub(crate) fn internal_unit(decimal: Decimal, given: &Given) -> Ending
 }
 
 /// The size of a unit of the present font.
-pub(crate) fn font_unit(decimal: Decimal, asked: Want, given: &Given, stage: &mut Length) -> Option<Ending>
+pub(crate) fn font_unit(
+    decimal: Decimal,
+    asked: Want,
+    given: &Given,
+    stage: &mut Length,
+) -> Option<Ending>
     ensures { (u : Uses) (more : List AGiven) →
         turned_length u stage.new result given.now more ≡ length_after u (Length.FontUnit decimal asked) (given.now ∷ more) }
 {
