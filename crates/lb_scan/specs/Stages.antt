@@ -19,7 +19,6 @@ use Rattle.lb_scan.specs.declared.stage.Purpose.{Purpose}
 use Rattle.lb_scan.specs.declared.stage.Purpose.TheVariants as purpose
 use Rattle.lb_scan.specs.declared.stage.Stage.{Stage}
 use Rattle.lb_scan.specs.declared.stage.Stage.TheVariants as stage
-use Rattle.lb_scan.specs.declared.stage.Turned.{Turned}
 use Rattle.lb_scan.specs.Lengths.{length_after}
 use Rattle.lb_scan.specs.Numbers.{number_after}
 
@@ -101,8 +100,8 @@ kept Nothing before g = []
 kept Last before g = g ∷ []
 
 -- what comes of a turn at what was given, where more is given
-abbrev pub turned : List ℕ → Turned → List Given → Given → List Given → Meant Scanned
-turned word t all g more = stage_after word t.stage (left t.keeps all g more) more
+abbrev pub turned : List ℕ → Stage → Keeps → List Given → Given → List Given → Meant Scanned
+turned word s keeps all g more = stage_after word s (left keeps all g more) more
 
 abbrev pub word_of : ScanKind → List ℕ
 word_of (scan_kind.Keyword word) = word

@@ -2,16 +2,16 @@
 ghost use Rattle.std.specs.Prelude.{◌≡◌, ◌∷◌, List, Bool, ℕ, true, false};
 ghost use Rattle.lb_model_grammar.specs.declared.given.Given.{Given as AGiven};
 ghost use Rattle.lb_model_grammar.specs.Dimensions.{Uses, behind_whole, point_or_unit};
-ghost use Rattle.lb_scan.specs.Lengths.{counted, length_after, turned_length};
+ghost use Rattle.lb_scan.specs.Lengths.{counted, ended_length, length_after, turned_length};
 ghost use Rattle.lb_scan.specs.Words.{units_in};
 
 use crate::arith::{LIMIT, grow};
 use crate::class::{classify, digit_of, is_point};
 use crate::fraction::Fraction;
-use crate::length::{Length, Turn, close};
+use crate::length::{Ending, Length, close, goes};
 use crate::number::digit_of_number;
 use crate::size::Decimal;
-use crate::unit::{font_unit, internal_unit, letters, unit};
+use crate::unit::{font_unit, internal_unit, letters, no_unit, unit};
 use lb_base::{Kind, Tok};
 use lb_model_grammar::{Class, Given};
 
@@ -19,9 +19,15 @@ use lb_model_grammar::{Class, Given};
 
 // What stands behind the whole part of a decimal.
 #[tactic(auto, using(crate::proofs::FractionLemmas::no_digits))]
-fn point_or_unit(infinite: bool, negative: bool, whole: u32, given: &Given) -> Turn
+fn point_or_unit(
+    infinite: bool,
+    negative: bool,
+    whole: u32,
+    given: &Given,
+    stage: &mut Length,
+) -> Option<Ending>
     ensures { (u : Uses) → u.units ≡ units_in infinite → (more : List AGiven) →
-        turned_length u result given.now more ≡ point_or_unit u negative whole (given.now ∷ more) }
+        turned_length u stage.new result given.now more ≡ point_or_unit u negative whole (given.now ∷ more) }
 {
     let decimal = Decimal {
         negative,
@@ -31,46 +37,65 @@ fn point_or_unit(infinite: bool, negative: bool, whole: u32, given: &Given) -> T
     match given {
         Given::Tok(tok) => {
             if is_point(tok) {
-                return Turn::Goes(Length::Fraction(negative, whole, Fraction::new()));
+                return goes(Length::Fraction(negative, whole, Fraction::new()), stage);
             }
-            unit(infinite, decimal, given)
+            unit(infinite, decimal, given, stage)
         }
-        Given::Quantity(_) => Turn::Missing(Kind::UnitMissing),
-        Given::End => Turn::Missing(Kind::UnitMissing),
+        Given::Quantity(_) => no_unit(),
+        Given::End => no_unit(),
     }
 }
 
-fn behind_whole(infinite: bool, negative: bool, whole: u32, given: &Given) -> Turn
+fn behind_whole(
+    infinite: bool,
+    negative: bool,
+    whole: u32,
+    given: &Given,
+    stage: &mut Length,
+) -> Option<Ending>
     ensures { (u : Uses) → u.units ≡ units_in infinite → (more : List AGiven) →
-        turned_length u result given.now more ≡ behind_whole u negative whole (given.now ∷ more) }
+        turned_length u stage.new result given.now more ≡ behind_whole u negative whole (given.now ∷ more) }
 {
     if whole < LIMIT {
-        return point_or_unit(infinite, negative, whole, given);
+        return point_or_unit(infinite, negative, whole, given, stage);
     }
-    Turn::Fails(Kind::NumberTooBig)
+    Some(Ending::Fails(Kind::NumberTooBig))
 }
 
-fn whole(infinite: bool, negative: bool, value: u32, given: &Given) -> Turn
+fn whole(
+    infinite: bool,
+    negative: bool,
+    value: u32,
+    given: &Given,
+    stage: &mut Length,
+) -> Option<Ending>
     ensures { (u : Uses) → u.units ≡ units_in infinite → (more : List AGiven) →
-        turned_length u result given.now more ≡ length_after u (Length.Whole negative value) (given.now ∷ more) }
+        turned_length u stage.new result given.now more ≡ length_after u (Length.Whole negative value) (given.now ∷ more) }
 {
     match given {
         Given::Tok(tok) => match digit_of(10, tok) {
-            Some(digit) => Turn::Goes(Length::Whole(negative, grow(10, value, digit))),
-            None => behind_whole(infinite, negative, value, given),
+            Some(digit) => goes(Length::Whole(negative, grow(10, value, digit)), stage),
+            None => behind_whole(infinite, negative, value, given, stage),
         },
-        Given::Quantity(_) => behind_whole(infinite, negative, value, given),
-        Given::End => behind_whole(infinite, negative, value, given),
+        Given::Quantity(_) => behind_whole(infinite, negative, value, given, stage),
+        Given::End => behind_whole(infinite, negative, value, given, stage),
     }
 }
 
-fn fraction(infinite: bool, negative: bool, whole: u32, digits: Fraction, given: &Given) -> Turn
+fn fraction(
+    infinite: bool,
+    negative: bool,
+    whole: u32,
+    digits: Fraction,
+    given: &Given,
+    stage: &mut Length,
+) -> Option<Ending>
     ensures { (u : Uses) → u.units ≡ units_in infinite → (more : List AGiven) →
-        turned_length u result given.now more ≡ length_after u (Length.Fraction negative whole digits) (given.now ∷ more) }
+        turned_length u stage.new result given.now more ≡ length_after u (Length.Fraction negative whole digits) (given.now ∷ more) }
 {
     match given {
         Given::Tok(tok) => match digit_of(10, tok) {
-            Some(digit) => Turn::Goes(Length::Fraction(negative, whole, digits.and(digit))),
+            Some(digit) => goes(Length::Fraction(negative, whole, digits.and(digit)), stage),
             None => {
                 let part = digits.nearest();
                 let decimal = Decimal {
@@ -78,11 +103,11 @@ fn fraction(infinite: bool, negative: bool, whole: u32, digits: Fraction, given:
                     whole,
                     part,
                 };
-                unit(infinite, decimal, given)
+                unit(infinite, decimal, given, stage)
             }
         },
-        Given::Quantity(_) => Turn::Missing(Kind::UnitMissing),
-        Given::End => Turn::Missing(Kind::UnitMissing),
+        Given::Quantity(_) => no_unit(),
+        Given::End => no_unit(),
     }
 }
 
@@ -122,59 +147,59 @@ pub(crate) fn length_digit(stage: &mut Length, given: &Given) -> bool
 // ---- The beginning
 
 #[tactic(auto, using(crate::proofs::FractionLemmas::no_digits))]
-fn sign(negative: bool, tok: &Tok) -> Turn
+fn sign(negative: bool, tok: &Tok, stage: &mut Length) -> Option<Ending>
     ensures { (u : Uses) (more : List AGiven) →
-        turned_length u result (AGiven.Tok tok.now) more ≡ length_after u (Length.Signs negative) (AGiven.Tok tok.now ∷ more) }
+        turned_length u stage.new result (AGiven.Tok tok.now) more ≡ length_after u (Length.Signs negative) (AGiven.Tok tok.now ∷ more) }
 {
     match classify(tok) {
-        Class::Space | Class::Plus => Turn::Goes(Length::Signs(negative)),
-        Class::Minus => Turn::Goes(Length::Signs(!negative)),
-        Class::Digit(digit) => Turn::Goes(Length::Whole(negative, u32::from(digit))),
-        Class::Point => Turn::Goes(Length::Fraction(negative, 0, Fraction::new())),
-        Class::Command => Turn::Goes(Length::Internal(negative)),
+        Class::Space | Class::Plus => goes(Length::Signs(negative), stage),
+        Class::Minus => goes(Length::Signs(!negative), stage),
+        Class::Digit(digit) => goes(Length::Whole(negative, u32::from(digit)), stage),
+        Class::Point => goes(Length::Fraction(negative, 0, Fraction::new()), stage),
+        Class::Command => goes(Length::Internal(negative), stage),
         Class::Octal | Class::Hexadecimal | Class::Quote | Class::Other => {
-            Turn::Missing(Kind::NumberMissing)
+            Some(Ending::Missing(Kind::NumberMissing))
         }
     }
 }
 
-fn signs(negative: bool, given: &Given) -> Turn
+fn signs(negative: bool, given: &Given, stage: &mut Length) -> Option<Ending>
     ensures { (u : Uses) (more : List AGiven) →
-        turned_length u result given.now more ≡ length_after u (Length.Signs negative) (given.now ∷ more) }
+        turned_length u stage.new result given.now more ≡ length_after u (Length.Signs negative) (given.now ∷ more) }
 {
     match given {
-        Given::Tok(tok) => sign(negative, tok),
-        Given::Quantity(_) => Turn::Missing(Kind::NumberMissing),
-        Given::End => Turn::Missing(Kind::NumberMissing),
+        Given::Tok(tok) => sign(negative, tok, stage),
+        Given::Quantity(_) => Some(Ending::Missing(Kind::NumberMissing)),
+        Given::End => Some(Ending::Missing(Kind::NumberMissing)),
     }
 }
 
-fn internal(negative: bool, given: &Given) -> Turn
+fn internal(negative: bool, given: &Given) -> Ending
     ensures { (u : Uses) (more : List AGiven) →
-        turned_length u result given.now more ≡ length_after u (Length.Internal negative) (given.now ∷ more) }
+        ended_length u result given.now more ≡ length_after u (Length.Internal negative) (given.now ∷ more) }
 {
     match given {
-        Given::Quantity(quantity) => Turn::Alone(negative, *quantity),
-        _ => Turn::Missing(Kind::NumberMissing),
+        Given::Quantity(_) => Ending::Alone(negative),
+        _ => Ending::Missing(Kind::NumberMissing),
     }
 }
 
-/// What is done where a dimension is scanned, which may be one of infinite glue, and more was given.
-pub(crate) fn length_turn(infinite: bool, stage: &Length, given: &Given) -> Turn
+/// Goes on with a dimension, which may be one of infinite glue, where more was given; or says how it ends.
+pub(crate) fn length_turn(infinite: bool, given: &Given, stage: &mut Length) -> Option<Ending>
     ensures { (u : Uses) → u.units ≡ units_in infinite → (more : List AGiven) →
-        turned_length u result given.now more ≡ length_after u stage.now (given.now ∷ more) }
+        turned_length u stage.new result given.now more ≡ length_after u stage.old (given.now ∷ more) }
 {
     match stage {
-        Length::Signs(negative) => signs(*negative, given),
-        Length::Whole(negative, value) => whole(infinite, *negative, *value, given),
+        Length::Signs(negative) => signs(*negative, given, stage),
+        Length::Whole(negative, value) => whole(infinite, *negative, *value, given, stage),
         Length::Fraction(negative, whole, digits) => {
-            fraction(infinite, *negative, *whole, *digits, given)
+            fraction(infinite, *negative, *whole, *digits, given, stage)
         }
-        Length::Unit_(decimal) => unit(infinite, *decimal, given),
-        Length::Letters(decimal, prefix) => letters(*decimal, *prefix, given),
-        Length::InternalUnit(decimal) => internal_unit(*decimal, given),
-        Length::FontUnit(decimal, asked) => font_unit(*decimal, *asked, given),
-        Length::Internal(negative) => internal(*negative, given),
-        Length::Space(size) => close(*size, given),
+        Length::Unit_(decimal) => unit(infinite, *decimal, given, stage),
+        Length::Letters(decimal, prefix) => letters(*decimal, *prefix, given, stage),
+        Length::InternalUnit(decimal) => Some(internal_unit(*decimal, given)),
+        Length::FontUnit(decimal, asked) => font_unit(*decimal, *asked, given, stage),
+        Length::Internal(negative) => Some(internal(*negative, given)),
+        Length::Space(size) => Some(close(*size, given)),
     }
 }

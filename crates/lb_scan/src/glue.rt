@@ -3,13 +3,15 @@ ghost use Rattle.std.specs.Prelude.{◌≡◌, ◌∷◌, ◌<◌, List, ℕ};
 ghost use Rattle.lb_model_grammar.specs.declared.given.Given.{Given as AGiven};
 ghost use Rattle.lb_model_grammar.specs.declared.given.Scanned.{Scanned};
 ghost use Rattle.lb_model_grammar.specs.Dimensions.{of_width, signed_glue};
-ghost use Rattle.lb_scan.specs.Lengths.{turned_length};
+ghost use Rattle.lb_scan.specs.declared.length.Length.{Length as ALength};
+ghost use Rattle.lb_scan.specs.declared.stage.Stage.{Stage as AStage};
+ghost use Rattle.lb_scan.specs.Lengths.{ended_length, length_after};
 ghost use Rattle.lb_scan.specs.Stages.{stage_after, turned, uses_of, within};
 
 use crate::arith::signed_value;
 use crate::class::{is_space, letter_of};
-use crate::length::{Length, Turn};
-use crate::stage::{Keeps, Purpose, Stage, Turned};
+use crate::length::{Ending, Length};
+use crate::stage::{Keeps, Purpose, Stage};
 use crate::word::{Progress, next_letter};
 use lb_base::{Glue, Kind, Order};
 use lb_model_grammar::{Given, Quantity, Scanned};
@@ -62,243 +64,308 @@ fn shrinking(glue: Glue, order: Order, shrink: i32) -> Glue
 
 // ---- Turns
 
-fn turned(stage: Stage, keeps: Keeps) -> Turned
-    ensures { result ≡ record { stage = stage; keeps = keeps } }
+// The next stage, and what is kept.
+#[inline(always)]
+fn turned(next: Stage, keeps: Keeps, stage: &mut Stage) -> Keeps
+    ensures stage { stage.new ≡ next }
+    ensures keeps { result ≡ keeps }
 {
-    Turned { stage, keeps }
+    *stage = next;
+    keeps
 }
 
 // The glue as it was read, and all behind it goes back.
-fn unchanged(glue: Glue) -> Turned
-    ensures { result ≡ record { stage = Stage.Over (Scanned.Skip glue); keeps = Keeps.All } }
+fn unchanged(glue: Glue, stage: &mut Stage) -> Keeps
+    ensures stage { stage.new ≡ Stage.Over (Scanned.Skip glue) }
+    ensures keeps { result ≡ Keeps.All }
 {
-    turned(Stage::Over(Scanned::Skip(glue)), Keeps::All)
+    turned(Stage::Over(Scanned::Skip(glue)), Keeps::All, stage)
 }
 
 /// Letters of `plus` were read.
-pub(crate) fn plus(glue: Glue, count: usize, given: &Given) -> Turned
+#[inline(never)]
+pub(crate) fn plus(glue: Glue, count: usize, given: &Given, stage: &mut Stage) -> Keeps
     requires { count < 4 }
     ensures next { (word : List ℕ) (all more : List AGiven) →
-        turned word result all given.now more ≡ stage_after word (Stage.Plus glue count) all (given.now ∷ more) }
-    ensures within { (word : List ℕ) → within word result.stage }
+        turned word stage.new result all given.now more ≡ stage_after word (Stage.Plus glue count) all (given.now ∷ more) }
+    ensures within { (word : List ℕ) → within word stage.new }
 {
     match next_letter(b"plus", count, given) {
-        Progress::Letters(count) => turned(Stage::Plus(glue, count), Keeps::All),
+        Progress::Letters(count) => turned(Stage::Plus(glue, count), Keeps::All, stage),
         Progress::Found => turned(
             Stage::Length(Purpose::Stretch(glue), Length::Signs(false)),
             Keeps::All,
+            stage,
         ),
-        Progress::Missing => unchanged(glue),
+        Progress::Missing => unchanged(glue, stage),
     }
 }
 
 /// Letters of `minus` were read.
-pub(crate) fn minus(glue: Glue, count: usize, given: &Given) -> Turned
+#[inline(never)]
+pub(crate) fn minus(glue: Glue, count: usize, given: &Given, stage: &mut Stage) -> Keeps
     requires { count < 5 }
     ensures next { (word : List ℕ) (all more : List AGiven) →
-        turned word result all given.now more ≡ stage_after word (Stage.Minus glue count) all (given.now ∷ more) }
-    ensures within { (word : List ℕ) → within word result.stage }
+        turned word stage.new result all given.now more ≡ stage_after word (Stage.Minus glue count) all (given.now ∷ more) }
+    ensures within { (word : List ℕ) → within word stage.new }
 {
     match next_letter(b"minus", count, given) {
-        Progress::Letters(count) => turned(Stage::Minus(glue, count), Keeps::All),
+        Progress::Letters(count) => turned(Stage::Minus(glue, count), Keeps::All, stage),
         Progress::Found => turned(
             Stage::Length(Purpose::Shrink(glue), Length::Signs(false)),
             Keeps::All,
+            stage,
         ),
-        Progress::Missing => unchanged(glue),
+        Progress::Missing => unchanged(glue, stage),
     }
 }
 
 /// `minus` may come behind spaces.
 #[tactic(auto, unfolding(crate::specs::Stages::shrinkable_after))]
-pub(crate) fn shrinkable(glue: Glue, given: &Given) -> Turned
+#[inline(never)]
+pub(crate) fn shrinkable(glue: Glue, given: &Given, stage: &mut Stage) -> Keeps
     ensures next { (word : List ℕ) (all more : List AGiven) →
-        turned word result all given.now more ≡ stage_after word (Stage.Shrinkable glue) all (given.now ∷ more) }
-    ensures within { (word : List ℕ) → within word result.stage }
+        turned word stage.new result all given.now more ≡ stage_after word (Stage.Shrinkable glue) all (given.now ∷ more) }
+    ensures within { (word : List ℕ) → within word stage.new }
 {
     match given {
         Given::Tok(tok) => {
             if is_space(tok) {
-                return turned(Stage::Shrinkable(glue), Keeps::All);
+                return turned(Stage::Shrinkable(glue), Keeps::All, stage);
             }
-            minus(glue, 0, given)
+            minus(glue, 0, given, stage)
         }
-        Given::Quantity(_) => unchanged(glue),
-        Given::End => unchanged(glue),
+        Given::Quantity(_) => unchanged(glue, stage),
+        Given::End => unchanged(glue, stage),
     }
 }
 
 /// `plus` or `minus` may come behind spaces.
 #[tactic(auto, unfolding(crate::specs::Stages::stretchable_after))]
-pub(crate) fn stretchable(glue: Glue, given: &Given) -> Turned
+#[inline(never)]
+pub(crate) fn stretchable(glue: Glue, given: &Given, stage: &mut Stage) -> Keeps
     ensures next { (word : List ℕ) (all more : List AGiven) →
-        turned word result all given.now more ≡ stage_after word (Stage.Stretchable glue) all (given.now ∷ more) }
-    ensures within { (word : List ℕ) → within word result.stage }
+        turned word stage.new result all given.now more ≡ stage_after word (Stage.Stretchable glue) all (given.now ∷ more) }
+    ensures within { (word : List ℕ) → within word stage.new }
 {
     match given {
         Given::Tok(tok) => {
             if is_space(tok) {
-                return turned(Stage::Stretchable(glue), Keeps::All);
+                return turned(Stage::Stretchable(glue), Keeps::All, stage);
             }
             match letter_of(tok) {
-                Some(b'p') => turned(Stage::Plus(glue, 1), Keeps::All),
-                Some(b'm') => turned(Stage::Minus(glue, 1), Keeps::All),
-                Some(_) => unchanged(glue),
-                None => unchanged(glue),
+                Some(b'p') => turned(Stage::Plus(glue, 1), Keeps::All, stage),
+                Some(b'm') => turned(Stage::Minus(glue, 1), Keeps::All, stage),
+                Some(_) => unchanged(glue, stage),
+                None => unchanged(glue, stage),
             }
         }
-        Given::Quantity(_) => unchanged(glue),
-        Given::End => unchanged(glue),
+        Given::Quantity(_) => unchanged(glue, stage),
+        Given::End => unchanged(glue, stage),
     }
 }
 
-// A turn at what stands behind a whole reading.
-fn behind(inner: Turned) -> Turned
-    ensures next { (word : List ℕ) (all : List AGiven) (g : AGiven) (more : List AGiven) →
-        turned word result all g more ≡ turned word inner (g ∷ more) g more }
-    ensures stage { result.stage ≡ inner.stage }
+// What is kept behind a turn at what stands behind a whole reading.
+fn behind(keeps: Keeps) -> Keeps
+    ensures { (word : List ℕ) (stage : AStage) (all : List AGiven) (g : AGiven) (more : List AGiven) →
+        turned word stage result all g more ≡ turned word stage keeps (g ∷ more) g more }
 {
-    let keeps = match inner.keeps {
+    match keeps {
         Keeps::All => Keeps::Last,
         Keeps::Nothing => Keeps::Nothing,
         Keeps::Last => Keeps::Last,
-    };
-    turned(inner.stage, keeps)
+    }
 }
 
 // ---- What comes of a dimension
 
-/// A dimension alone.
-fn dimension(turn: Turn) -> Turned
-    ensures next { (word : List ℕ) (all : List AGiven) (g : AGiven) (more : List AGiven) →
-        turned word result all g more ≡ turned_length (uses_of Purpose.Dimension all) turn g more }
-    ensures within { (word : List ℕ) → within word result.stage }
+/// What is kept where a dimension goes on.
+pub(crate) fn going_on(purpose: Purpose) -> Keeps
+    ensures { (word : List ℕ) (length : ALength) (all : List AGiven) (g : AGiven) (more : List AGiven) →
+        turned word (Stage.Length purpose length) result all g more ≡ length_after (uses_of purpose all) length more }
 {
-    match turn {
-        Turn::Goes(length) => turned(Stage::Length(Purpose::Dimension, length), Keeps::Nothing),
-        Turn::Alone(negative, Quantity::Dimen(dimen)) => {
-            turned(
-                Stage::Over(Scanned::Dimen(signed_value(negative, dimen))),
-                Keeps::Nothing,
-            )
-        }
-        Turn::Alone(_, Quantity::NotOne) => turned(
-            Stage::Failed(Kind::NumberMissing),
-            Keeps::Nothing,
-        ),
-        Turn::Alone(_, Quantity::Number(_)) => turned(
-            Stage::Failed(Kind::NumberMissing),
-            Keeps::Nothing,
-        ),
-        Turn::Alone(_, Quantity::Skip(_)) => turned(
-            Stage::Failed(Kind::NumberMissing),
-            Keeps::Nothing,
-        ),
-        Turn::Missing(kind) => turned(Stage::Failed(kind), Keeps::Nothing),
-        Turn::Fails(kind) => turned(Stage::Failed(kind), Keeps::Nothing),
-        Turn::Found(_, dimen) => turned(Stage::Over(Scanned::Dimen(dimen)), Keeps::Nothing),
-        Turn::FoundBefore(_, dimen) => turned(Stage::Over(Scanned::Dimen(dimen)), Keeps::Last),
+    match purpose {
+        Purpose::Dimension => Keeps::Nothing,
+        Purpose::Width => Keeps::Nothing,
+        Purpose::Stretch(_) => Keeps::All,
+        Purpose::Shrink(_) => Keeps::All,
     }
 }
 
-/// The width of glue.
-fn width(turn: Turn, given: &Given) -> Turned
+/// A dimension alone.
+fn dimension(end: Ending, given: &Given, stage: &mut Stage) -> Keeps
     ensures next { (word : List ℕ) (all more : List AGiven) →
-        turned word result all given.now more ≡ turned_length (uses_of Purpose.Width all) turn given.now more }
-    ensures within { (word : List ℕ) → within word result.stage }
+        turned word stage.new result all given.now more ≡ ended_length (uses_of Purpose.Dimension all) end given.now more }
+    ensures within { (word : List ℕ) → within word stage.new }
 {
-    match turn {
-        Turn::Goes(length) => turned(Stage::Length(Purpose::Width, length), Keeps::Nothing),
-        Turn::Alone(negative, Quantity::Skip(glue)) => {
-            turned(
-                Stage::Over(Scanned::Skip(signed_glue(negative, glue))),
-                Keeps::Nothing,
-            )
-        }
-        Turn::Alone(negative, Quantity::Dimen(dimen)) => {
-            turned(
-                Stage::Stretchable(of_width(signed_value(negative, dimen))),
-                Keeps::Nothing,
-            )
-        }
-        Turn::Alone(_, Quantity::NotOne) => turned(
-            Stage::Failed(Kind::NumberMissing),
+    match end {
+        Ending::Alone(negative) => dimension_alone(negative, given, stage),
+        Ending::Missing(kind) => failed(kind, stage),
+        Ending::Fails(kind) => failed(kind, stage),
+        Ending::Found(_, dimen) => turned(
+            Stage::Over(Scanned::Dimen(dimen)),
             Keeps::Nothing,
+            stage,
         ),
-        Turn::Alone(_, Quantity::Number(_)) => turned(
-            Stage::Failed(Kind::NumberMissing),
+        Ending::FoundBefore(_, dimen) => turned(
+            Stage::Over(Scanned::Dimen(dimen)),
+            Keeps::Last,
+            stage,
+        ),
+    }
+}
+
+fn dimension_alone(negative: bool, given: &Given, stage: &mut Stage) -> Keeps
+    ensures next { (word : List ℕ) (all more : List AGiven) →
+        turned word stage.new result all given.now more ≡ ended_length (uses_of Purpose.Dimension all) (Ending.Alone negative) given.now more }
+    ensures within { (word : List ℕ) → within word stage.new }
+{
+    match given {
+        Given::Quantity(Quantity::Dimen(dimen)) => turned(
+            Stage::Over(Scanned::Dimen(signed_value(negative, *dimen))),
             Keeps::Nothing,
+            stage,
         ),
-        Turn::Missing(kind) => turned(Stage::Failed(kind), Keeps::Nothing),
-        Turn::Fails(kind) => turned(Stage::Failed(kind), Keeps::Nothing),
-        Turn::Found(_, width) => turned(Stage::Stretchable(of_width(width)), Keeps::Nothing),
-        Turn::FoundBefore(_, width) => behind(stretchable(of_width(width), given)),
+        Given::Quantity(Quantity::NotOne) => failed(Kind::NumberMissing, stage),
+        Given::Quantity(Quantity::Number(_)) => failed(Kind::NumberMissing, stage),
+        Given::Quantity(Quantity::Skip(_)) => failed(Kind::NumberMissing, stage),
+        Given::Tok(_) => failed(Kind::NumberMissing, stage),
+        Given::End => failed(Kind::NumberMissing, stage),
+    }
+}
+
+#[cold]
+fn failed(kind: Kind, stage: &mut Stage) -> Keeps
+    ensures stage { stage.new ≡ Stage.Failed kind }
+    ensures keeps { result ≡ Keeps.Nothing }
+{
+    turned(Stage::Failed(kind), Keeps::Nothing, stage)
+}
+
+/// The width of glue.
+fn width(end: Ending, given: &Given, stage: &mut Stage) -> Keeps
+    ensures next { (word : List ℕ) (all more : List AGiven) →
+        turned word stage.new result all given.now more ≡ ended_length (uses_of Purpose.Width all) end given.now more }
+    ensures within { (word : List ℕ) → within word stage.new }
+{
+    match end {
+        Ending::Alone(negative) => width_alone(negative, given, stage),
+        Ending::Missing(kind) => failed(kind, stage),
+        Ending::Fails(kind) => failed(kind, stage),
+        Ending::Found(_, width) => turned(
+            Stage::Stretchable(of_width(width)),
+            Keeps::Nothing,
+            stage,
+        ),
+        Ending::FoundBefore(_, width) => behind(stretchable(of_width(width), given, stage)),
+    }
+}
+
+fn width_alone(negative: bool, given: &Given, stage: &mut Stage) -> Keeps
+    ensures next { (word : List ℕ) (all more : List AGiven) →
+        turned word stage.new result all given.now more ≡ ended_length (uses_of Purpose.Width all) (Ending.Alone negative) given.now more }
+    ensures within { (word : List ℕ) → within word stage.new }
+{
+    match given {
+        Given::Quantity(Quantity::Skip(glue)) => turned(
+            Stage::Over(Scanned::Skip(signed_glue(negative, *glue))),
+            Keeps::Nothing,
+            stage,
+        ),
+        Given::Quantity(Quantity::Dimen(dimen)) => turned(
+            Stage::Stretchable(of_width(signed_value(negative, *dimen))),
+            Keeps::Nothing,
+            stage,
+        ),
+        Given::Quantity(Quantity::NotOne) => failed(Kind::NumberMissing, stage),
+        Given::Quantity(Quantity::Number(_)) => failed(Kind::NumberMissing, stage),
+        Given::Tok(_) => failed(Kind::NumberMissing, stage),
+        Given::End => failed(Kind::NumberMissing, stage),
     }
 }
 
 /// What glue stretches by.
-fn stretch(glue: Glue, turn: Turn, given: &Given) -> Turned
+fn stretch(glue: Glue, end: Ending, given: &Given, stage: &mut Stage) -> Keeps
     ensures next { (word : List ℕ) (all more : List AGiven) →
-        turned word result all given.now more ≡ turned_length (uses_of (Purpose.Stretch glue) all) turn given.now more }
-    ensures within { (word : List ℕ) → within word result.stage }
+        turned word stage.new result all given.now more ≡ ended_length (uses_of (Purpose.Stretch glue) all) end given.now more }
+    ensures within { (word : List ℕ) → within word stage.new }
 {
-    match turn {
-        Turn::Goes(length) => turned(Stage::Length(Purpose::Stretch(glue), length), Keeps::All),
-        Turn::Alone(negative, Quantity::Dimen(dimen)) => {
-            let glue = stretching(glue, Order::Finite, signed_value(negative, dimen));
-            turned(Stage::Shrinkable(glue), Keeps::Nothing)
-        }
-        Turn::Alone(_, Quantity::NotOne) => unchanged(glue),
-        Turn::Alone(_, Quantity::Number(_)) => unchanged(glue),
-        Turn::Alone(_, Quantity::Skip(_)) => unchanged(glue),
-        Turn::Missing(_) => unchanged(glue),
-        Turn::Fails(kind) => turned(Stage::Failed(kind), Keeps::Nothing),
-        Turn::Found(order, size) => turned(
+    match end {
+        Ending::Alone(negative) => match given {
+            Given::Quantity(Quantity::Dimen(dimen)) => {
+                let glue = stretching(glue, Order::Finite, signed_value(negative, *dimen));
+                turned(Stage::Shrinkable(glue), Keeps::Nothing, stage)
+            }
+            Given::Quantity(Quantity::NotOne) => unchanged(glue, stage),
+            Given::Quantity(Quantity::Number(_)) => unchanged(glue, stage),
+            Given::Quantity(Quantity::Skip(_)) => unchanged(glue, stage),
+            Given::Tok(_) => unchanged(glue, stage),
+            Given::End => unchanged(glue, stage),
+        },
+        Ending::Missing(_) => unchanged(glue, stage),
+        Ending::Fails(kind) => failed(kind, stage),
+        Ending::Found(order, size) => turned(
             Stage::Shrinkable(stretching(glue, order, size)),
             Keeps::Nothing,
+            stage,
         ),
-        Turn::FoundBefore(order, size) => behind(shrinkable(stretching(glue, order, size), given)),
+        Ending::FoundBefore(order, size) => behind(shrinkable(
+            stretching(glue, order, size),
+            given,
+            stage,
+        )),
     }
 }
 
 /// What glue shrinks by.
-fn shrink(glue: Glue, turn: Turn) -> Turned
-    ensures next { (word : List ℕ) (all : List AGiven) (g : AGiven) (more : List AGiven) →
-        turned word result all g more ≡ turned_length (uses_of (Purpose.Shrink glue) all) turn g more }
-    ensures within { (word : List ℕ) → within word result.stage }
+fn shrink(glue: Glue, end: Ending, given: &Given, stage: &mut Stage) -> Keeps
+    ensures next { (word : List ℕ) (all more : List AGiven) →
+        turned word stage.new result all given.now more ≡ ended_length (uses_of (Purpose.Shrink glue) all) end given.now more }
+    ensures within { (word : List ℕ) → within word stage.new }
 {
-    match turn {
-        Turn::Goes(length) => turned(Stage::Length(Purpose::Shrink(glue), length), Keeps::All),
-        Turn::Alone(negative, Quantity::Dimen(dimen)) => {
-            let glue = shrinking(glue, Order::Finite, signed_value(negative, dimen));
-            turned(Stage::Over(Scanned::Skip(glue)), Keeps::Nothing)
-        }
-        Turn::Alone(_, Quantity::NotOne) => unchanged(glue),
-        Turn::Alone(_, Quantity::Number(_)) => unchanged(glue),
-        Turn::Alone(_, Quantity::Skip(_)) => unchanged(glue),
-        Turn::Missing(_) => unchanged(glue),
-        Turn::Fails(kind) => turned(Stage::Failed(kind), Keeps::Nothing),
-        Turn::Found(order, size) => turned(
+    match end {
+        Ending::Alone(negative) => match given {
+            Given::Quantity(Quantity::Dimen(dimen)) => {
+                let glue = shrinking(glue, Order::Finite, signed_value(negative, *dimen));
+                turned(Stage::Over(Scanned::Skip(glue)), Keeps::Nothing, stage)
+            }
+            Given::Quantity(Quantity::NotOne) => unchanged(glue, stage),
+            Given::Quantity(Quantity::Number(_)) => unchanged(glue, stage),
+            Given::Quantity(Quantity::Skip(_)) => unchanged(glue, stage),
+            Given::Tok(_) => unchanged(glue, stage),
+            Given::End => unchanged(glue, stage),
+        },
+        Ending::Missing(_) => unchanged(glue, stage),
+        Ending::Fails(kind) => failed(kind, stage),
+        Ending::Found(order, size) => turned(
             Stage::Over(Scanned::Skip(shrinking(glue, order, size))),
             Keeps::Nothing,
+            stage,
         ),
-        Turn::FoundBefore(order, size) => turned(
+        Ending::FoundBefore(order, size) => turned(
             Stage::Over(Scanned::Skip(shrinking(glue, order, size))),
             Keeps::Last,
+            stage,
         ),
     }
 }
 
-/// What comes of a dimension by what it is for.
-pub(crate) fn dimension_turned(purpose: Purpose, turn: Turn, given: &Given) -> Turned
+/// What comes of the end of a dimension by what it is for.
+#[inline(never)]
+pub(crate) fn dimension_ended(
+    purpose: Purpose,
+    end: Ending,
+    given: &Given,
+    stage: &mut Stage,
+) -> Keeps
     ensures next { (word : List ℕ) (all more : List AGiven) →
-        turned word result all given.now more ≡ turned_length (uses_of purpose all) turn given.now more }
-    ensures within { (word : List ℕ) → within word result.stage }
+        turned word stage.new result all given.now more ≡ ended_length (uses_of purpose all) end given.now more }
+    ensures within { (word : List ℕ) → within word stage.new }
 {
     match purpose {
-        Purpose::Dimension => dimension(turn),
-        Purpose::Width => width(turn, given),
-        Purpose::Stretch(glue) => stretch(glue, turn, given),
-        Purpose::Shrink(glue) => shrink(glue, turn),
+        Purpose::Dimension => dimension(end, given, stage),
+        Purpose::Width => width(end, given, stage),
+        Purpose::Stretch(glue) => stretch(glue, end, given, stage),
+        Purpose::Shrink(glue) => shrink(glue, end, given, stage),
     }
 }

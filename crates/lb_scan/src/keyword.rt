@@ -5,62 +5,58 @@ ghost use Rattle.lb_scan.specs.Stages.{stage_after, turned, within};
 ghost use Rattle.lb_model_grammar.specs.declared.given.Scanned.{Scanned};
 
 use crate::class::is_space;
-use crate::stage::{Keeps, Stage, Turned};
+use crate::stage::{Keeps, Stage};
 use crate::word::{Progress, next_letter};
 use lb_model_grammar::{Given, Scanned};
 
 /// Letters of the word were read.
-pub(crate) fn letters(word: &[u8], count: usize, given: &Given) -> Turned
+pub(crate) fn letters(word: &[u8], count: usize, given: &Given, stage: &mut Stage) -> Keeps
     requires { count < length word.now }
     ensures next { (all more : List AGiven) →
-        turned word.now result all given.now more ≡ stage_after word.now (Stage.Letters count) all (given.now ∷ more) }
-    ensures within { within word.now result.stage }
+        turned word.now stage.new result all given.now more ≡ stage_after word.now (Stage.Letters count) all (given.now ∷ more) }
+    ensures within { within word.now stage.new }
 {
     match next_letter(word, count, given) {
-        Progress::Letters(count) => Turned {
-            stage: Stage::Letters(count),
-            keeps: Keeps::All,
-        },
-        Progress::Found => Turned {
-            stage: Stage::Over(Scanned::Found(true)),
-            keeps: Keeps::Nothing,
-        },
-        Progress::Missing => missing(),
+        Progress::Letters(count) => {
+            *stage = Stage::Letters(count);
+            Keeps::All
+        }
+        Progress::Found => {
+            *stage = Stage::Over(Scanned::Found(true));
+            Keeps::Nothing
+        }
+        Progress::Missing => missing(stage),
     }
 }
 
-fn missing() -> Turned
-    ensures { result ≡ record { stage = Stage.Over (Scanned.Found false); keeps = Keeps.All } }
+fn missing(stage: &mut Stage) -> Keeps
+    ensures stage { stage.new ≡ Stage.Over (Scanned.Found false) }
+    ensures keeps { result ≡ Keeps.All }
 {
-    Turned {
-        stage: Stage::Over(Scanned::Found(false)),
-        keeps: Keeps::All,
-    }
+    *stage = Stage::Over(Scanned::Found(false));
+    Keeps::All
 }
 
 /// Spaces may come before the word.
-pub(crate) fn spaces(word: &[u8], given: &Given) -> Turned
+#[inline(never)]
+pub(crate) fn spaces(word: &[u8], given: &Given, stage: &mut Stage) -> Keeps
     ensures next { (all more : List AGiven) →
-        turned word.now result all given.now more ≡ stage_after word.now Stage.Spaces all (given.now ∷ more) }
-    ensures within { within word.now result.stage }
+        turned word.now stage.new result all given.now more ≡ stage_after word.now Stage.Spaces all (given.now ∷ more) }
+    ensures within { within word.now stage.new }
 {
     match given {
         Given::Tok(tok) => {
             if is_space(tok) {
-                return Turned {
-                    stage: Stage::Spaces,
-                    keeps: Keeps::All,
-                };
+                *stage = Stage::Spaces;
+                return Keeps::All;
             }
             if word.is_empty() {
-                return Turned {
-                    stage: Stage::Over(Scanned::Found(true)),
-                    keeps: Keeps::Last,
-                };
+                *stage = Stage::Over(Scanned::Found(true));
+                return Keeps::Last;
             }
-            letters(word, 0, given)
+            letters(word, 0, given, stage)
         }
-        Given::Quantity(_) => missing(),
-        Given::End => missing(),
+        Given::Quantity(_) => missing(stage),
+        Given::End => missing(stage),
     }
 }

@@ -1,8 +1,8 @@
 //! How far the scan of a dimension has come, and its end.
-ghost use Rattle.std.specs.Prelude.{◌≡◌, ◌∷◌, List};
+ghost use Rattle.std.specs.Prelude.{◌≡◌, ◌∷◌, List, None};
 ghost use Rattle.lb_model_grammar.specs.declared.given.Given.{Given as AGiven};
 ghost use Rattle.lb_model_grammar.specs.Dimensions.{Uses, sized};
-ghost use Rattle.lb_scan.specs.Lengths.{length_after, turned_length};
+ghost use Rattle.lb_scan.specs.Lengths.{ended_length, length_after};
 
 use crate::arith::signed_value;
 use crate::class::is_space;
@@ -10,7 +10,7 @@ use crate::fraction::Fraction;
 use crate::size::{Decimal, Size};
 use crate::spelling::Prefix;
 use lb_base::{Kind, Order};
-use lb_model_grammar::{Given, Quantity, Want};
+use lb_model_grammar::{Given, Want};
 
 /// How far the scan of a dimension has come; the flag tells whether it has a minus.
 #[derive(Clone, Copy)]
@@ -34,44 +34,53 @@ pub(crate) enum Length {
     Space(Size),
 }
 
-/// What is done where more was given: a stage goes on, an internal quantity stands alone, something is missing, there is a fault, or the
-/// dimension ends with what was given or before it.
+/// What is done where no stage goes on: the internal quantity that was given stands alone, something is missing, there is a fault, or the dimension ends
+/// with what was given or before it.
 #[derive(Clone, Copy)]
-pub(crate) enum Turn {
-    Goes(Length),
-    Alone(bool, Quantity),
+pub(crate) enum Ending {
+    Alone(bool),
     Missing(Kind),
     Fails(Kind),
     Found(Order, i32),
     FoundBefore(Order, i32),
 }
 
+/// The next stage, and no end.
+#[inline(always)]
+pub(crate) fn goes(next: Length, stage: &mut Length) -> Option<Ending>
+    ensures stage { stage.new ≡ next }
+    ensures goes { result ≡ None }
+{
+    *stage = next;
+    None
+}
+
 /// The dimension ends with what was given.
-pub(crate) fn end(size: Size) -> Turn
-    ensures { (u : Uses) (g : AGiven) (more : List AGiven) → turned_length u result g more ≡ sized u size.negative size.order size.size more }
+pub(crate) fn end(size: Size) -> Ending
+    ensures { (u : Uses) (g : AGiven) (more : List AGiven) → ended_length u result g more ≡ sized u size.negative size.order size.size more }
 {
     if size.size < 1_073_741_824 {
-        Turn::Found(size.order, signed_value(size.negative, size.size as i32))
+        Ending::Found(size.order, signed_value(size.negative, size.size as i32))
     } else {
-        Turn::Fails(Kind::DimenTooLarge)
+        Ending::Fails(Kind::DimenTooLarge)
     }
 }
 
 // It ends before what was given.
-fn end_before(size: Size) -> Turn
+fn end_before(size: Size) -> Ending
     ensures { (u : Uses) (g : AGiven) (more : List AGiven) →
-        turned_length u result g more ≡ sized u size.negative size.order size.size (g ∷ more) }
+        ended_length u result g more ≡ sized u size.negative size.order size.size (g ∷ more) }
 {
     if size.size < 1_073_741_824 {
-        Turn::FoundBefore(size.order, signed_value(size.negative, size.size as i32))
+        Ending::FoundBefore(size.order, signed_value(size.negative, size.size as i32))
     } else {
-        Turn::Fails(Kind::DimenTooLarge)
+        Ending::Fails(Kind::DimenTooLarge)
     }
 }
 
 /// What stands behind a unit, which is taken where it is a space.
-pub(crate) fn close(size: Size, given: &Given) -> Turn
-    ensures { (u : Uses) (more : List AGiven) → turned_length u result given.now more ≡ length_after u (Length.Space size) (given.now ∷ more) }
+pub(crate) fn close(size: Size, given: &Given) -> Ending
+    ensures { (u : Uses) (more : List AGiven) → ended_length u result given.now more ≡ length_after u (Length.Space size) (given.now ∷ more) }
 {
     match given {
         Given::Tok(tok) => {

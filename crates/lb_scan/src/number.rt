@@ -152,6 +152,7 @@ fn internal(negative: bool, given: &Given) -> NumberTurn
 }
 
 /// What is done where a number is scanned and more was given.
+#[inline(never)]
 pub(crate) fn number_turn(stage: Number, given: &Given) -> NumberTurn
     ensures { (more : List AGiven) → turned_number result given.now more ≡ number_after stage (given.now ∷ more) }
 {

@@ -12,13 +12,13 @@ ghost use Rattle.lb_scan.specs.Stages.{stage_after, turned, uses_of, within, wor
 ghost use Rattle.lb_scan.specs.Words.{units_in};
 
 use crate::dimension::{length_digit, length_turn};
-use crate::glue::{dimension_turned, minus, plus, shrinkable, stretchable};
+use crate::glue::{dimension_ended, going_on, minus, plus, shrinkable, stretchable};
 use crate::history::History;
 use crate::kept::Kept;
 use crate::keyword::{letters, spaces};
 use crate::length::Length;
 use crate::number::{Number, NumberTurn, number_digit, number_turn};
-use crate::stage::{Keeps, Purpose, Stage, Turned};
+use crate::stage::{Keeps, Purpose, Stage};
 use lb_base::{Kind, NoMemory, Stop, TokList};
 use lb_model_grammar::{Given, ScanKind, Scanned, Want};
 use std::alloc::Global;
@@ -68,28 +68,28 @@ fn word_of(kind: &ScanKind) -> &[u8]
 }
 
 // What comes of a number.
-fn number_turned(turn: NumberTurn) -> Turned
+fn number_turned(turn: NumberTurn, stage: &mut Stage) -> Keeps
     ensures next { (word : List ℕ) (all : List AGiven) (g : AGiven) (more : List AGiven) →
-        turned word result all g more ≡ turned_number turn g more }
-    ensures within { (word : List ℕ) → within word result.stage }
+        turned word stage.new result all g more ≡ turned_number turn g more }
+    ensures within { (word : List ℕ) → within word stage.new }
 {
     match turn {
-        NumberTurn::Goes(number) => Turned {
-            stage: Stage::Number(number),
-            keeps: Keeps::Nothing,
-        },
-        NumberTurn::Ends(value) => Turned {
-            stage: Stage::Over(Scanned::Number(value)),
-            keeps: Keeps::Nothing,
-        },
-        NumberTurn::EndsBefore(value) => Turned {
-            stage: Stage::Over(Scanned::Number(value)),
-            keeps: Keeps::Last,
-        },
-        NumberTurn::Fails(kind) => Turned {
-            stage: Stage::Failed(kind),
-            keeps: Keeps::Nothing,
-        },
+        NumberTurn::Goes(number) => {
+            *stage = Stage::Number(number);
+            Keeps::Nothing
+        }
+        NumberTurn::Ends(value) => {
+            *stage = Stage::Over(Scanned::Number(value));
+            Keeps::Nothing
+        }
+        NumberTurn::EndsBefore(value) => {
+            *stage = Stage::Over(Scanned::Number(value));
+            Keeps::Last
+        }
+        NumberTurn::Fails(kind) => {
+            *stage = Stage::Failed(kind);
+            Keeps::Nothing
+        }
     }
 }
 
@@ -105,39 +105,31 @@ fn is_infinite(purpose: Purpose) -> bool
     }
 }
 
-fn length_turned(purpose: Purpose, length: &Length, given: &Given) -> Turned
-    ensures next { (word : List ℕ) (all more : List AGiven) →
-        turned word result all given.now more ≡ stage_after word (Stage.Length purpose length.now) all (given.now ∷ more) }
-    ensures within { (word : List ℕ) → within word result.stage }
-{
-    let turn = length_turn(is_infinite(purpose), length, given);
-    dimension_turned(purpose, turn, given)
-}
-
-// The stage that a scan turns to where this is given.
+// The next stage where this is given, and what is kept then.
 #[inline(never)]
-fn turn(word: &[u8], stage: &Stage, given: &Given) -> Turned
-    requires { within word.now stage.now }
-    ensures next { (all more : List AGiven) → turned word.now result all given.now more ≡ stage_after word.now stage.now all (given.now ∷ more) }
-    ensures within { within word.now result.stage }
+fn turn(word: &[u8], given: &Given, stage: &mut Stage) -> Keeps
+    requires { within word.now stage.old }
+    ensures next { (all more : List AGiven) →
+        turned word.now stage.new result all given.now more ≡ stage_after word.now stage.old all (given.now ∷ more) }
+    ensures within { within word.now stage.new }
 {
     match stage {
-        Stage::Number(number) => number_turned(number_turn(*number, given)),
-        Stage::Length(purpose, length) => length_turned(*purpose, length, given),
-        Stage::Stretchable(glue) => stretchable(*glue, given),
-        Stage::Plus(glue, count) => plus(*glue, *count, given),
-        Stage::Shrinkable(glue) => shrinkable(*glue, given),
-        Stage::Minus(glue, count) => minus(*glue, *count, given),
-        Stage::Spaces => spaces(word, given),
-        Stage::Letters(count) => letters(word, *count, given),
-        Stage::Over(value) => Turned {
-            stage: Stage::Over(*value),
-            keeps: Keeps::All,
-        },
-        Stage::Failed(kind) => Turned {
-            stage: Stage::Failed(*kind),
-            keeps: Keeps::All,
-        },
+        Stage::Number(number) => number_turned(number_turn(*number, given), stage),
+        Stage::Length(purpose, length) => {
+            let purpose = *purpose;
+            match length_turn(is_infinite(purpose), given, length) {
+                None => going_on(purpose),
+                Some(end) => dimension_ended(purpose, end, given, stage),
+            }
+        }
+        Stage::Stretchable(glue) => stretchable(*glue, given, stage),
+        Stage::Plus(glue, count) => plus(*glue, *count, given, stage),
+        Stage::Shrinkable(glue) => shrinkable(*glue, given, stage),
+        Stage::Minus(glue, count) => minus(*glue, *count, given, stage),
+        Stage::Spaces => spaces(word, given, stage),
+        Stage::Letters(count) => letters(word, *count, given, stage),
+        Stage::Over(_) => Keeps::All,
+        Stage::Failed(_) => Keeps::All,
     }
 }
 
@@ -235,9 +227,12 @@ impl Scan {
             self.past = past;
             return Ok(());
         }
-        let turned = turn(word_of(&self.kind), &self.stage, &given);
-        self.kept.turn(turned.keeps, given)?;
-        self.stage = turned.stage;
+        let before = self.stage;
+        let keeps = turn(word_of(&self.kind), &given, &mut self.stage);
+        if let Err(error) = self.kept.turn(keeps, given) {
+            self.stage = before;
+            return Err(error);
+        }
         self.past = past;
         Ok(())
     }

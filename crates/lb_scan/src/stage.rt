@@ -41,10 +41,3 @@ pub(crate) enum Keeps {
     Nothing,
     Last,
 }
-
-/// The stage that a scan turns to, and what is kept then.
-#[derive(Clone, Copy)]
-pub(crate) struct Turned {
-    pub stage: Stage,
-    pub keeps: Keeps,
-}

@@ -7,7 +7,8 @@ use Rattle.lb_scan.proofs.glue.shrinkable.Goals as goal
 pub returns-then-is_space-clause-next : goal.returns-then-is_space-clause-next
 returns-then-is_space-clause-next c =
     λ word all more.
-    ap (λ r. turned word r all c.args.given.now more) c.turned.ensures
+    ap (λ s. turned word s c.turned.result all c.args.given.now more) c.turned.ensures.stage
+    ∙ ap (λ k. turned word (Shrinkable c.args.glue) k all c.args.given.now more) c.turned.ensures.keeps
     ∙ sym
     (
     ap (λ g. stage_after word (Shrinkable c.args.glue) all (g ∷ more)) c.in-Tok.is
