@@ -19,6 +19,7 @@ use lb_model_grammar::{Class, Given};
 
 // What stands behind the whole part of a decimal.
 #[tactic(auto, using(crate::proofs::FractionLemmas::no_digits))]
+#[inline(always)]
 fn point_or_unit(
     infinite: bool,
     negative: bool,
@@ -46,6 +47,7 @@ fn point_or_unit(
     }
 }
 
+#[inline(always)]
 fn behind_whole(
     infinite: bool,
     negative: bool,
@@ -62,6 +64,7 @@ fn behind_whole(
     Some(Ending::Fails(Kind::NumberTooBig))
 }
 
+#[inline(always)]
 fn whole(
     infinite: bool,
     negative: bool,
@@ -82,6 +85,7 @@ fn whole(
     }
 }
 
+#[inline(always)]
 fn fraction(
     infinite: bool,
     negative: bool,
@@ -131,9 +135,9 @@ fn digit_of_fraction(digits: &mut Fraction, given: &Given) -> bool
     }
 }
 
-/// The same within a dimension.
+// The same within a dimension.
 #[inline]
-pub(crate) fn length_digit(stage: &mut Length, given: &Given) -> bool
+fn length_digit(stage: &mut Length, given: &Given) -> bool
     ensures next { result ≡ true → (u : Uses) (more : List AGiven) → length_after u stage.new more ≡ length_after u stage.old (given.now ∷ more) }
     ensures same { result ≡ false → stage.new ≡ stage.old }
 {
@@ -147,6 +151,7 @@ pub(crate) fn length_digit(stage: &mut Length, given: &Given) -> bool
 // ---- The beginning
 
 #[tactic(auto, using(crate::proofs::FractionLemmas::no_digits))]
+#[inline(always)]
 fn sign(negative: bool, tok: &Tok, stage: &mut Length) -> Option<Ending>
     ensures { (u : Uses) (more : List AGiven) →
         turned_length u stage.new result (AGiven.Tok tok.now) more ≡ length_after u (Length.Signs negative) (AGiven.Tok tok.now ∷ more) }
@@ -163,6 +168,7 @@ fn sign(negative: bool, tok: &Tok, stage: &mut Length) -> Option<Ending>
     }
 }
 
+#[inline(always)]
 fn signs(negative: bool, given: &Given, stage: &mut Length) -> Option<Ending>
     ensures { (u : Uses) (more : List AGiven) →
         turned_length u stage.new result given.now more ≡ length_after u (Length.Signs negative) (given.now ∷ more) }
@@ -184,8 +190,9 @@ fn internal(negative: bool, given: &Given) -> Ending
     }
 }
 
-/// Goes on with a dimension, which may be one of infinite glue, where more was given; or says how it ends.
-pub(crate) fn length_turn(infinite: bool, given: &Given, stage: &mut Length) -> Option<Ending>
+// Goes on with a dimension, which may be one of infinite glue, where more was given; or says how it ends.
+#[inline(always)]
+fn turn(infinite: bool, given: &Given, stage: &mut Length) -> Option<Ending>
     ensures { (u : Uses) → u.units ≡ units_in infinite → (more : List AGiven) →
         turned_length u stage.new result given.now more ≡ length_after u stage.old (given.now ∷ more) }
 {
@@ -201,5 +208,48 @@ pub(crate) fn length_turn(infinite: bool, given: &Given, stage: &mut Length) -> 
         Length::FontUnit(decimal, asked) => font_unit(*decimal, *asked, given, stage),
         Length::Internal(negative) => Some(internal(*negative, given)),
         Length::Space(size) => Some(close(*size, given)),
+    }
+}
+
+/// The same, where it need not be quick: its machine code stands once.
+#[inline(never)]
+pub(crate) fn length_turn(infinite: bool, given: &Given, stage: &mut Length) -> Option<Ending>
+    ensures { (u : Uses) → u.units ≡ units_in infinite → (more : List AGiven) →
+        turned_length u stage.new result given.now more ≡ length_after u stage.old (given.now ∷ more) }
+{
+    turn(infinite, given, stage)
+}
+
+// Goes on with a dimension that is not of infinite glue. Whether it goes on; else all is as before.
+#[inline(never)]
+fn goes_further(stage: &mut Length, given: &Given) -> bool
+    ensures next { result ≡ true → (u : Uses) → u.units ≡ units_in false → (more : List AGiven) →
+        length_after u stage.new more ≡ length_after u stage.old (given.now ∷ more) }
+    ensures same { result ≡ false → stage.new ≡ stage.old }
+{
+    let before = *stage;
+    match turn(false, given, stage) {
+        None => true,
+        Some(_) => {
+            *stage = before;
+            false
+        }
+    }
+}
+
+/// Goes on with a dimension that is not of infinite glue, digits first; where it ends, `length_turn` says how. Whether it goes on; else all
+/// is as before.
+#[inline]
+pub(crate) fn length_goes(stage: &mut Length, given: &Given) -> bool
+    ensures next { result ≡ true → (u : Uses) → u.units ≡ units_in false → (more : List AGiven) →
+        length_after u stage.new more ≡ length_after u stage.old (given.now ∷ more) }
+    ensures same { result ≡ false → stage.new ≡ stage.old }
+{
+    if length_digit(stage, given) {
+        return true;
+    }
+    match stage {
+        Length::Space(_) => false,
+        _ => goes_further(stage, given),
     }
 }

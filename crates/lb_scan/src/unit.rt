@@ -57,6 +57,7 @@ fn letters_end(decimal: Decimal, prefix: Prefix, given: &Given) -> Ending
 }
 
 // A letter behind letters of a unit.
+#[inline(always)]
 fn letter_more(
     decimal: Decimal,
     prefix: Prefix,
@@ -76,6 +77,7 @@ fn letter_more(
 }
 
 /// What is given behind letters of a unit.
+#[inline(always)]
 pub(crate) fn letters(
     decimal: Decimal,
     prefix: Prefix,
@@ -104,6 +106,7 @@ pub(crate) fn no_unit() -> Option<Ending>
 }
 
 // The first letter of a unit.
+#[inline(always)]
 fn letters_begin(infinite: bool, decimal: Decimal, tok: &Tok, stage: &mut Length) -> Option<Ending>
     ensures { (u : Uses) → u.units ≡ units_in infinite → (more : List AGiven) → turned_length u stage.new result (AGiven.Tok tok.now) more
         ≡ one_of u.units (in_unit u decimal.negative decimal.whole decimal.part) (u.missing AKind.UnitMissing) (AGiven.Tok tok.now ∷ more) }
