@@ -1,5 +1,5 @@
 //! Turns of a scan of a dimension, whatever comes of it.
-ghost use Rattle.std.specs.Prelude.{◌≡◌, ◌∷◌, List, Bool, ℕ, true, false};
+ghost use Rattle.std.specs.Prelude.{◌≡◌, ◌∷◌, List, Bool, ℕ, IfSome, true, false};
 ghost use Rattle.lb_model_grammar.specs.declared.given.Given.{Given as AGiven};
 ghost use Rattle.lb_model_grammar.specs.Dimensions.{Uses, behind_whole, point_or_unit};
 ghost use Rattle.lb_scan.specs.Lengths.{counted, ended_length, length_after, turned_length};
@@ -27,8 +27,9 @@ fn point_or_unit(
     given: &Given,
     stage: &mut Length,
 ) -> Option<Ending>
-    ensures { (u : Uses) → u.units ≡ units_in infinite → (more : List AGiven) →
+    ensures next { (u : Uses) → u.units ≡ units_in infinite → (more : List AGiven) →
         turned_length u stage.new result given.now more ≡ point_or_unit u negative whole (given.now ∷ more) }
+    ensures same { IfSome result (λ e. stage.new ≡ stage.old) }
 {
     let decimal = Decimal {
         negative,
@@ -55,8 +56,9 @@ fn behind_whole(
     given: &Given,
     stage: &mut Length,
 ) -> Option<Ending>
-    ensures { (u : Uses) → u.units ≡ units_in infinite → (more : List AGiven) →
+    ensures next { (u : Uses) → u.units ≡ units_in infinite → (more : List AGiven) →
         turned_length u stage.new result given.now more ≡ behind_whole u negative whole (given.now ∷ more) }
+    ensures same { IfSome result (λ e. stage.new ≡ stage.old) }
 {
     if whole < LIMIT {
         return point_or_unit(infinite, negative, whole, given, stage);
@@ -72,8 +74,9 @@ fn whole(
     given: &Given,
     stage: &mut Length,
 ) -> Option<Ending>
-    ensures { (u : Uses) → u.units ≡ units_in infinite → (more : List AGiven) →
+    ensures next { (u : Uses) → u.units ≡ units_in infinite → (more : List AGiven) →
         turned_length u stage.new result given.now more ≡ length_after u (Length.Whole negative value) (given.now ∷ more) }
+    ensures same { IfSome result (λ e. stage.new ≡ stage.old) }
 {
     match given {
         Given::Tok(tok) => match digit_of(10, tok) {
@@ -94,8 +97,9 @@ fn fraction(
     given: &Given,
     stage: &mut Length,
 ) -> Option<Ending>
-    ensures { (u : Uses) → u.units ≡ units_in infinite → (more : List AGiven) →
+    ensures next { (u : Uses) → u.units ≡ units_in infinite → (more : List AGiven) →
         turned_length u stage.new result given.now more ≡ length_after u (Length.Fraction negative whole digits) (given.now ∷ more) }
+    ensures same { IfSome result (λ e. stage.new ≡ stage.old) }
 {
     match given {
         Given::Tok(tok) => match digit_of(10, tok) {
@@ -153,8 +157,9 @@ fn length_digit(stage: &mut Length, given: &Given) -> bool
 #[tactic(auto, using(crate::proofs::FractionLemmas::no_digits))]
 #[inline(always)]
 fn sign(negative: bool, tok: &Tok, stage: &mut Length) -> Option<Ending>
-    ensures { (u : Uses) (more : List AGiven) →
+    ensures next { (u : Uses) (more : List AGiven) →
         turned_length u stage.new result (AGiven.Tok tok.now) more ≡ length_after u (Length.Signs negative) (AGiven.Tok tok.now ∷ more) }
+    ensures same { IfSome result (λ e. stage.new ≡ stage.old) }
 {
     match classify(tok) {
         Class::Space | Class::Plus => goes(Length::Signs(negative), stage),
@@ -170,8 +175,9 @@ fn sign(negative: bool, tok: &Tok, stage: &mut Length) -> Option<Ending>
 
 #[inline(always)]
 fn signs(negative: bool, given: &Given, stage: &mut Length) -> Option<Ending>
-    ensures { (u : Uses) (more : List AGiven) →
+    ensures next { (u : Uses) (more : List AGiven) →
         turned_length u stage.new result given.now more ≡ length_after u (Length.Signs negative) (given.now ∷ more) }
+    ensures same { IfSome result (λ e. stage.new ≡ stage.old) }
 {
     match given {
         Given::Tok(tok) => sign(negative, tok, stage),
@@ -190,11 +196,12 @@ fn internal(negative: bool, given: &Given) -> Ending
     }
 }
 
-// Goes on with a dimension, which may be one of infinite glue, where more was given; or says how it ends.
+// Goes on with a dimension, which may be one of infinite glue, where more was given; or says how it ends, and then the stage is as before.
 #[inline(always)]
 fn turn(infinite: bool, given: &Given, stage: &mut Length) -> Option<Ending>
-    ensures { (u : Uses) → u.units ≡ units_in infinite → (more : List AGiven) →
+    ensures next { (u : Uses) → u.units ≡ units_in infinite → (more : List AGiven) →
         turned_length u stage.new result given.now more ≡ length_after u stage.old (given.now ∷ more) }
+    ensures same { IfSome result (λ e. stage.new ≡ stage.old) }
 {
     match stage {
         Length::Signs(negative) => signs(*negative, given, stage),
@@ -227,13 +234,9 @@ fn goes_further(stage: &mut Length, given: &Given) -> bool
         length_after u stage.new more ≡ length_after u stage.old (given.now ∷ more) }
     ensures same { result ≡ false → stage.new ≡ stage.old }
 {
-    let before = *stage;
     match turn(false, given, stage) {
         None => true,
-        Some(_) => {
-            *stage = before;
-            false
-        }
+        Some(_) => false,
     }
 }
 
