@@ -1,5 +1,5 @@
 //! Turns of a scan of a dimension, whatever comes of it.
-ghost use Rattle.std.specs.Prelude.{◌≡◌, ◌∷◌, List, Bool, ℕ, true, false};
+ghost use Rattle.std.specs.Prelude.{◌≡◌, ◌∷◌, List, Bool, ℕ, IfSome, true, false};
 ghost use Rattle.lb_model_grammar.specs.declared.given.Given.{Given as AGiven};
 ghost use Rattle.lb_model_grammar.specs.Dimensions.{Uses, behind_whole, point_or_unit};
 ghost use Rattle.lb_scan.specs.Lengths.{counted, ended_length, length_after, turned_length};
@@ -19,6 +19,7 @@ use lb_model_grammar::{Class, Given};
 
 // What stands behind the whole part of a decimal.
 #[tactic(auto, using(crate::proofs::FractionLemmas::no_digits))]
+#[inline(always)]
 fn point_or_unit(
     infinite: bool,
     negative: bool,
@@ -26,8 +27,9 @@ fn point_or_unit(
     given: &Given,
     stage: &mut Length,
 ) -> Option<Ending>
-    ensures { (u : Uses) → u.units ≡ units_in infinite → (more : List AGiven) →
+    ensures next { (u : Uses) → u.units ≡ units_in infinite → (more : List AGiven) →
         turned_length u stage.new result given.now more ≡ point_or_unit u negative whole (given.now ∷ more) }
+    ensures same { IfSome result (λ e. stage.new ≡ stage.old) }
 {
     let decimal = Decimal {
         negative,
@@ -46,6 +48,7 @@ fn point_or_unit(
     }
 }
 
+#[inline(always)]
 fn behind_whole(
     infinite: bool,
     negative: bool,
@@ -53,8 +56,9 @@ fn behind_whole(
     given: &Given,
     stage: &mut Length,
 ) -> Option<Ending>
-    ensures { (u : Uses) → u.units ≡ units_in infinite → (more : List AGiven) →
+    ensures next { (u : Uses) → u.units ≡ units_in infinite → (more : List AGiven) →
         turned_length u stage.new result given.now more ≡ behind_whole u negative whole (given.now ∷ more) }
+    ensures same { IfSome result (λ e. stage.new ≡ stage.old) }
 {
     if whole < LIMIT {
         return point_or_unit(infinite, negative, whole, given, stage);
@@ -62,6 +66,7 @@ fn behind_whole(
     Some(Ending::Fails(Kind::NumberTooBig))
 }
 
+#[inline(always)]
 fn whole(
     infinite: bool,
     negative: bool,
@@ -69,8 +74,9 @@ fn whole(
     given: &Given,
     stage: &mut Length,
 ) -> Option<Ending>
-    ensures { (u : Uses) → u.units ≡ units_in infinite → (more : List AGiven) →
+    ensures next { (u : Uses) → u.units ≡ units_in infinite → (more : List AGiven) →
         turned_length u stage.new result given.now more ≡ length_after u (Length.Whole negative value) (given.now ∷ more) }
+    ensures same { IfSome result (λ e. stage.new ≡ stage.old) }
 {
     match given {
         Given::Tok(tok) => match digit_of(10, tok) {
@@ -82,6 +88,7 @@ fn whole(
     }
 }
 
+#[inline(always)]
 fn fraction(
     infinite: bool,
     negative: bool,
@@ -90,8 +97,9 @@ fn fraction(
     given: &Given,
     stage: &mut Length,
 ) -> Option<Ending>
-    ensures { (u : Uses) → u.units ≡ units_in infinite → (more : List AGiven) →
+    ensures next { (u : Uses) → u.units ≡ units_in infinite → (more : List AGiven) →
         turned_length u stage.new result given.now more ≡ length_after u (Length.Fraction negative whole digits) (given.now ∷ more) }
+    ensures same { IfSome result (λ e. stage.new ≡ stage.old) }
 {
     match given {
         Given::Tok(tok) => match digit_of(10, tok) {
@@ -131,9 +139,9 @@ fn digit_of_fraction(digits: &mut Fraction, given: &Given) -> bool
     }
 }
 
-/// The same within a dimension.
+// The same within a dimension.
 #[inline]
-pub(crate) fn length_digit(stage: &mut Length, given: &Given) -> bool
+fn length_digit(stage: &mut Length, given: &Given) -> bool
     ensures next { result ≡ true → (u : Uses) (more : List AGiven) → length_after u stage.new more ≡ length_after u stage.old (given.now ∷ more) }
     ensures same { result ≡ false → stage.new ≡ stage.old }
 {
@@ -147,9 +155,11 @@ pub(crate) fn length_digit(stage: &mut Length, given: &Given) -> bool
 // ---- The beginning
 
 #[tactic(auto, using(crate::proofs::FractionLemmas::no_digits))]
+#[inline(always)]
 fn sign(negative: bool, tok: &Tok, stage: &mut Length) -> Option<Ending>
-    ensures { (u : Uses) (more : List AGiven) →
+    ensures next { (u : Uses) (more : List AGiven) →
         turned_length u stage.new result (AGiven.Tok tok.now) more ≡ length_after u (Length.Signs negative) (AGiven.Tok tok.now ∷ more) }
+    ensures same { IfSome result (λ e. stage.new ≡ stage.old) }
 {
     match classify(tok) {
         Class::Space | Class::Plus => goes(Length::Signs(negative), stage),
@@ -163,9 +173,11 @@ fn sign(negative: bool, tok: &Tok, stage: &mut Length) -> Option<Ending>
     }
 }
 
+#[inline(always)]
 fn signs(negative: bool, given: &Given, stage: &mut Length) -> Option<Ending>
-    ensures { (u : Uses) (more : List AGiven) →
+    ensures next { (u : Uses) (more : List AGiven) →
         turned_length u stage.new result given.now more ≡ length_after u (Length.Signs negative) (given.now ∷ more) }
+    ensures same { IfSome result (λ e. stage.new ≡ stage.old) }
 {
     match given {
         Given::Tok(tok) => sign(negative, tok, stage),
@@ -184,10 +196,12 @@ fn internal(negative: bool, given: &Given) -> Ending
     }
 }
 
-/// Goes on with a dimension, which may be one of infinite glue, where more was given; or says how it ends.
-pub(crate) fn length_turn(infinite: bool, given: &Given, stage: &mut Length) -> Option<Ending>
-    ensures { (u : Uses) → u.units ≡ units_in infinite → (more : List AGiven) →
+// Goes on with a dimension, which may be one of infinite glue, where more was given; or says how it ends, and then the stage is as before.
+#[inline(always)]
+fn turn(infinite: bool, given: &Given, stage: &mut Length) -> Option<Ending>
+    ensures next { (u : Uses) → u.units ≡ units_in infinite → (more : List AGiven) →
         turned_length u stage.new result given.now more ≡ length_after u stage.old (given.now ∷ more) }
+    ensures same { IfSome result (λ e. stage.new ≡ stage.old) }
 {
     match stage {
         Length::Signs(negative) => signs(*negative, given, stage),
@@ -201,5 +215,44 @@ pub(crate) fn length_turn(infinite: bool, given: &Given, stage: &mut Length) -> 
         Length::FontUnit(decimal, asked) => font_unit(*decimal, *asked, given, stage),
         Length::Internal(negative) => Some(internal(*negative, given)),
         Length::Space(size) => Some(close(*size, given)),
+    }
+}
+
+/// The same, where it need not be quick: its machine code stands once.
+#[inline(never)]
+pub(crate) fn length_turn(infinite: bool, given: &Given, stage: &mut Length) -> Option<Ending>
+    ensures { (u : Uses) → u.units ≡ units_in infinite → (more : List AGiven) →
+        turned_length u stage.new result given.now more ≡ length_after u stage.old (given.now ∷ more) }
+{
+    turn(infinite, given, stage)
+}
+
+// Goes on with a dimension that is not of infinite glue. Whether it goes on; else all is as before.
+#[inline(never)]
+fn goes_further(stage: &mut Length, given: &Given) -> bool
+    ensures next { result ≡ true → (u : Uses) → u.units ≡ units_in false → (more : List AGiven) →
+        length_after u stage.new more ≡ length_after u stage.old (given.now ∷ more) }
+    ensures same { result ≡ false → stage.new ≡ stage.old }
+{
+    match turn(false, given, stage) {
+        None => true,
+        Some(_) => false,
+    }
+}
+
+/// Goes on with a dimension that is not of infinite glue, digits first; where it ends, `length_turn` says how. Whether it goes on; else all
+/// is as before.
+#[inline]
+pub(crate) fn length_goes(stage: &mut Length, given: &Given) -> bool
+    ensures next { result ≡ true → (u : Uses) → u.units ≡ units_in false → (more : List AGiven) →
+        length_after u stage.new more ≡ length_after u stage.old (given.now ∷ more) }
+    ensures same { result ≡ false → stage.new ≡ stage.old }
+{
+    if length_digit(stage, given) {
+        return true;
+    }
+    match stage {
+        Length::Space(_) => false,
+        _ => goes_further(stage, given),
     }
 }

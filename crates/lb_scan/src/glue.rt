@@ -180,9 +180,9 @@ fn behind(keeps: Keeps) -> Keeps
 // ---- What comes of a dimension
 
 /// What is kept where a dimension goes on.
-pub(crate) fn going_on(purpose: Purpose) -> Keeps
+pub(crate) fn going_on(purpose: &Purpose) -> Keeps
     ensures { (word : List ℕ) (length : ALength) (all : List AGiven) (g : AGiven) (more : List AGiven) →
-        turned word (Stage.Length purpose length) result all g more ≡ length_after (uses_of purpose all) length more }
+        turned word (Stage.Length purpose.now length) result all g more ≡ length_after (uses_of purpose.now all) length more }
 {
     match purpose {
         Purpose::Dimension => Keeps::Nothing,

@@ -11,7 +11,7 @@ ghost use Rattle.lb_scan.specs.Numbers.{number_after, turned_number};
 ghost use Rattle.lb_scan.specs.Stages.{stage_after, turned, uses_of, within, word_of};
 ghost use Rattle.lb_scan.specs.Words.{units_in};
 
-use crate::dimension::{length_digit, length_turn};
+use crate::dimension::{length_goes, length_turn};
 use crate::glue::{dimension_ended, going_on, minus, plus, shrinkable, stretchable};
 use crate::history::History;
 use crate::kept::Kept;
@@ -94,8 +94,8 @@ fn number_turned(turn: NumberTurn, stage: &mut Stage) -> Keeps
 }
 
 // Whether the units of infinite glue may come.
-fn is_infinite(purpose: Purpose) -> bool
-    ensures { (all : List AGiven) → (uses_of purpose all).units ≡ units_in result }
+fn is_infinite(purpose: &Purpose) -> bool
+    ensures { (all : List AGiven) → (uses_of purpose.now all).units ≡ units_in result }
 {
     match purpose {
         Purpose::Dimension => false,
@@ -115,13 +115,13 @@ fn turn(word: &[u8], given: &Given, stage: &mut Stage) -> Keeps
 {
     match stage {
         Stage::Number(number) => number_turned(number_turn(*number, given), stage),
-        Stage::Length(purpose, length) => {
-            let purpose = *purpose;
-            match length_turn(is_infinite(purpose), given, length) {
-                None => going_on(purpose),
-                Some(end) => dimension_ended(purpose, end, given, stage),
+        Stage::Length(purpose, length) => match length_turn(is_infinite(purpose), given, length) {
+            None => going_on(purpose),
+            Some(end) => {
+                let purpose = *purpose;
+                dimension_ended(purpose, end, given, stage)
             }
-        }
+        },
         Stage::Stretchable(glue) => stretchable(*glue, given, stage),
         Stage::Plus(glue, count) => plus(*glue, *count, given, stage),
         Stage::Shrinkable(glue) => shrinkable(*glue, given, stage),
@@ -133,10 +133,10 @@ fn turn(word: &[u8], given: &Given, stage: &mut Stage) -> Keeps
     }
 }
 
-// Takes a digit of a number, or of a dimension behind which nothing is kept: the short way of most tokens. Whether it was one; else the
-// stage is as before.
+// Goes on with a number at a digit, or with a dimension behind which nothing is kept: the short way of most tokens. Whether it does; else
+// the stage is as before.
 #[inline]
-fn take_digit(stage: &mut Stage, given: &Given) -> bool
+fn goes_on(stage: &mut Stage, given: &Given) -> bool
     ensures next { result ≡ true → (word : List ℕ) (all left more : List AGiven) →
         stage_after word stage.new left more ≡ stage_after word stage.old all (given.now ∷ more) }
     ensures within { result ≡ true → (word : List ℕ) → within word stage.new }
@@ -144,8 +144,8 @@ fn take_digit(stage: &mut Stage, given: &Given) -> bool
 {
     match stage {
         Stage::Number(number) => number_digit(number, given),
-        Stage::Length(Purpose::Dimension, length) => length_digit(length, given),
-        Stage::Length(Purpose::Width, length) => length_digit(length, given),
+        Stage::Length(Purpose::Dimension, length) => length_goes(length, given),
+        Stage::Length(Purpose::Width, length) => length_goes(length, given),
         _ => false,
     }
 }
@@ -223,7 +223,7 @@ impl Scan {
         ensures err { OnErr result (self.new ≡ self.old) }
     {
         let past = self.past.and(&given);
-        if take_digit(&mut self.stage, &given) {
+        if goes_on(&mut self.stage, &given) {
             self.past = past;
             return Ok(());
         }

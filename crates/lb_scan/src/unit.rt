@@ -1,5 +1,5 @@
 //! Turns of a scan of a dimension within its unit.
-ghost use Rattle.std.specs.Prelude.{◌≡◌, ◌∷◌, List, Some};
+ghost use Rattle.std.specs.Prelude.{◌≡◌, ◌∷◌, IfSome, List, Some};
 ghost use Rattle.lb_base.specs.declared.fault.Kind.{Kind as AKind};
 ghost use Rattle.lb_model_grammar.specs.declared.given.Given.{Given as AGiven};
 ghost use Rattle.lb_model_grammar.specs.Dimensions.{Uses, in_unit};
@@ -57,6 +57,7 @@ fn letters_end(decimal: Decimal, prefix: Prefix, given: &Given) -> Ending
 }
 
 // A letter behind letters of a unit.
+#[inline(always)]
 fn letter_more(
     decimal: Decimal,
     prefix: Prefix,
@@ -64,9 +65,10 @@ fn letter_more(
     given: &Given,
     stage: &mut Length,
 ) -> Option<Ending>
-    ensures { (u : Uses) (more : List AGiven) → turned_length u stage.new result given.now more
+    ensures next { (u : Uses) (more : List AGiven) → turned_length u stage.new result given.now more
         ≡ one_of (behind_letter letter (endings prefix)) (in_unit u decimal.negative decimal.whole decimal.part)
         (no_letter (endings prefix) (λ x. in_unit u decimal.negative decimal.whole decimal.part x (given.now ∷ more)) (u.missing AKind.UnitMissing)) more }
+    ensures same { IfSome result (λ e. stage.new ≡ stage.old) }
 {
     match spell(prefix, letter) {
         Spelled::Whole(unit) => goes(unit_read(decimal, unit), stage),
@@ -76,14 +78,16 @@ fn letter_more(
 }
 
 /// What is given behind letters of a unit.
+#[inline(always)]
 pub(crate) fn letters(
     decimal: Decimal,
     prefix: Prefix,
     given: &Given,
     stage: &mut Length,
 ) -> Option<Ending>
-    ensures { (u : Uses) (more : List AGiven) →
+    ensures next { (u : Uses) (more : List AGiven) →
         turned_length u stage.new result given.now more ≡ length_after u (Length.Letters decimal prefix) (given.now ∷ more) }
+    ensures same { IfSome result (λ e. stage.new ≡ stage.old) }
 {
     match given {
         Given::Tok(tok) => match letter_of(tok) {
@@ -104,9 +108,11 @@ pub(crate) fn no_unit() -> Option<Ending>
 }
 
 // The first letter of a unit.
+#[inline(always)]
 fn letters_begin(infinite: bool, decimal: Decimal, tok: &Tok, stage: &mut Length) -> Option<Ending>
-    ensures { (u : Uses) → u.units ≡ units_in infinite → (more : List AGiven) → turned_length u stage.new result (AGiven.Tok tok.now) more
+    ensures next { (u : Uses) → u.units ≡ units_in infinite → (more : List AGiven) → turned_length u stage.new result (AGiven.Tok tok.now) more
         ≡ one_of u.units (in_unit u decimal.negative decimal.whole decimal.part) (u.missing AKind.UnitMissing) (AGiven.Tok tok.now ∷ more) }
+    ensures same { IfSome result (λ e. stage.new ≡ stage.old) }
 {
     match letter_of(tok) {
         Some(letter) => match first_letter(infinite, letter) {
@@ -124,8 +130,9 @@ pub(crate) fn unit(
     given: &Given,
     stage: &mut Length,
 ) -> Option<Ending>
-    ensures { (u : Uses) → u.units ≡ units_in infinite → (more : List AGiven) →
+    ensures next { (u : Uses) → u.units ≡ units_in infinite → (more : List AGiven) →
         turned_length u stage.new result given.now more ≡ length_after u (Length.Unit_ decimal) (given.now ∷ more) }
+    ensures same { IfSome result (λ e. stage.new ≡ stage.old) }
 {
     match given {
         Given::Tok(tok) => match classify(tok) {
@@ -163,8 +170,9 @@ pub(crate) fn font_unit(
     given: &Given,
     stage: &mut Length,
 ) -> Option<Ending>
-    ensures { (u : Uses) (more : List AGiven) →
+    ensures next { (u : Uses) (more : List AGiven) →
         turned_length u stage.new result given.now more ≡ length_after u (Length.FontUnit decimal asked) (given.now ∷ more) }
+    ensures same { IfSome result (λ e. stage.new ≡ stage.old) }
 {
     match given {
         Given::Quantity(Quantity::Dimen(dimen)) => {

@@ -6,13 +6,13 @@ use Rattle.lb_scan.specs.Words.{behind_letter, endings, no_letter}
 use Rattle.lb_scan.proofs.UnitLemmas.{one-of-letter}
 use Rattle.lb_scan.proofs.unit.letters.Goals as goal
 
-pub returns-in-Some : goal.returns-in-Some
-returns-in-Some c =
+pub returns-in-Some-clause-next : goal.returns-in-Some-clause-next
+returns-in-Some-clause-next c =
     λ u more.
     let d = c.args.decimal in
     let f = in_unit u d.negative d.whole d.part in
     let ends = endings c.args.prefix in
-    c.letter_more.ensures u more
+    c.letter_more.ensures.next u more
     ∙ ap (λ g. one_of (behind_letter c.in-Some.letter ends) f (no_letter ends (λ x. f x (g ∷ more)) (u.missing UnitMissing)) more) c.in-Tok.is
     ∙ sym
     (

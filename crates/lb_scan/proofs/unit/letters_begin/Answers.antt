@@ -9,8 +9,8 @@ use Rattle.lb_scan.specs.Words.{units_in}
 use Rattle.lb_scan.proofs.UnitLemmas.{units-begin, units-begin-none, none-behind}
 use Rattle.lb_scan.proofs.unit.letters_begin.Goals as goal
 
-pub returns-in-Some-first_letter : goal.returns-in-Some-first_letter
-returns-in-Some-first_letter c =
+pub returns-in-Some-first_letter-clause-next : goal.returns-in-Some-first_letter-clause-next
+returns-in-Some-first_letter-clause-next c =
     λ u same more.
     let d = c.args.decimal in
     let f = in_unit u d.negative d.whole d.part in
@@ -23,8 +23,8 @@ returns-in-Some-first_letter c =
     ∙ ap (λ ws. one_of ws f (u.missing UnitMissing) more) c.in-Some-first_letter.ensures
     )
 
-pub returns-in-None-first_letter : goal.returns-in-None-first_letter
-returns-in-None-first_letter c =
+pub returns-in-None-first_letter-clause-next : goal.returns-in-None-first_letter-clause-next
+returns-in-None-first_letter-clause-next c =
     λ u same more.
     let d = c.args.decimal in
     let f = in_unit u d.negative d.whole d.part in
@@ -36,8 +36,8 @@ returns-in-None-first_letter c =
     ∙ ap (λ ws. one_of ws f (u.missing UnitMissing) more) (none-behind c.in-Some.letter (units_in c.args.infinite) c.in-None-first_letter.ensures)
     )
 
-pub returns-in-None : goal.returns-in-None
-returns-in-None c =
+pub returns-in-None-clause-next : goal.returns-in-None-clause-next
+returns-in-None-clause-next c =
     λ u same more.
     let d = c.args.decimal in
     let f = in_unit u d.negative d.whole d.part in

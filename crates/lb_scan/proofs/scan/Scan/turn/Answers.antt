@@ -6,6 +6,6 @@ use Rattle.lb_scan.proofs.scan.Scan.turn.Goals as goal
 pub invariant_of-self : goal.invariant_of-self
 invariant_of-self c =
     let s = c.self.inside in
-    let turned = c.take_digit.ensures in
-    subst (λ given. Stands s.kind given s.kept c.take_digit.new.stage) (sym c.and-past.ensures)
-    (stands-on s.kind s.past.items s.kept s.stage c.take_digit.new.stage c.args.given c.self.invariant (turned.next c.if-take_digit.true) (turned.within c.if-take_digit.true))
+    let turned = c.goes_on.ensures in
+    subst (λ given. Stands s.kind given s.kept c.goes_on.new.stage) (sym c.and-past.ensures)
+    (stands-on s.kind s.past.items s.kept s.stage c.goes_on.new.stage c.args.given c.self.invariant (turned.next c.if-goes_on.true) (turned.within c.if-goes_on.true))
