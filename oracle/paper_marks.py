@@ -280,7 +280,7 @@ class Marks:
         try:
             page = self.page_code(number)
         except DimenTooLarge:
-            return ['pages 0'] + ['fault DimenTooLarge'] * (count > 0)
+            return ['pages 0', 'fault DimenTooLarge']
         # the limits are passed by the pages from some place on
         written, over = 0, count + 1
         while over - written > 1:
