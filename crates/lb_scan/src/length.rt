@@ -45,6 +45,9 @@ pub(crate) enum Ending {
     FoundBefore(Order, i32),
 }
 
+/// The size at which lengths are too large.
+const TOO_LARGE: u64 = 1_073_741_824;
+
 /// The next stage, and no end.
 #[inline(always)]
 pub(crate) fn goes(next: Length, stage: &mut Length) -> Option<Ending>
@@ -59,7 +62,7 @@ pub(crate) fn goes(next: Length, stage: &mut Length) -> Option<Ending>
 pub(crate) fn end(size: Size) -> Ending
     ensures { (u : Uses) (g : AGiven) (more : List AGiven) → ended_length u result g more ≡ sized u size.negative size.order size.size more }
 {
-    if size.size < 1_073_741_824 {
+    if size.size < TOO_LARGE {
         Ending::Found(size.order, signed_value(size.negative, size.size as i32))
     } else {
         Ending::Fails(Kind::DimenTooLarge)
@@ -71,7 +74,7 @@ fn end_before(size: Size) -> Ending
     ensures { (u : Uses) (g : AGiven) (more : List AGiven) →
         ended_length u result g more ≡ sized u size.negative size.order size.size (g ∷ more) }
 {
-    if size.size < 1_073_741_824 {
+    if size.size < TOO_LARGE {
         Ending::FoundBefore(size.order, signed_value(size.negative, size.size as i32))
     } else {
         Ending::Fails(Kind::DimenTooLarge)
