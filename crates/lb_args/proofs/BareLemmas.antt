@@ -1,6 +1,6 @@
 -- Lists that are wholly one group.
-use Rattle.std.proofs.Common.{◌≡◌, ◌∙◌, ◌-◌, ◌<◌, ◌≤◌, ◌&&◌, Bool, true, false, ℕ, zero, suc, List, [], ◌∷◌, refl, ap, sym, take, drop, length, nat_eq, arith, add-one, ◌+◌}
-use Rattle.std.specs.Prelude.{Option, Some, None, if◌then◌else◌, get_or}
+use Rattle.std.proofs.Common.{◌≡◌, ◌∙◌, ◌-◌, ◌<◌, ◌≤◌, true, ℕ, zero, suc, List, [], ◌∷◌, refl, ap, sym, take, drop, length, nat_eq, arith, add-one, ◌+◌}
+use Rattle.std.specs.Prelude.{Some, None, if◌then◌else◌, get_or}
 use Rattle.std.proofs.Math.Bool.{and-false}
 use Rattle.std.proofs.Math.Dec.{eqb-suc-suc, eqb-zero-suc}
 use Rattle.std.proofs.Math.Seq.{drop-cons}
@@ -21,15 +21,6 @@ bare-group [] h = cc
 bare-group (t ∷ []) h = cc (h, and-false (opens t))
 bare-group (t ∷ u ∷ toks) h = ap (λ n. drop 1 (take n (t ∷ u ∷ toks))) (one-less (suc (length toks))) ∙ last-off u toks ∙ ap (λ b. if b then but_last (u ∷ toks) else (t ∷ u ∷ toks)) (sym h)
 
-pub not-bare : (toks : List Tok) → is_group toks ≡ false → toks ≡ without_braces toks
-not-bare [] h = refl
-not-bare (t ∷ toks) h = ap (λ b. if b then but_last toks else (t ∷ toks)) (sym h)
-
-pub group-some : (toks : List Tok) → is_group toks ≡ true → 1 < length toks
-group-some [] h = cc
-group-some (t ∷ []) h = cc (h, and-false (opens t))
-group-some (t ∷ u ∷ toks) h = omega arith
-
 -- the first group is closed here, which is at the end or not
 end-at : (toks : List Tok) (n : ℕ) → n ≤ length toks → closes_at_end None (drop n toks) ≡ nat_eq n (length toks)
 end-at [] zero h = refl
@@ -44,9 +35,3 @@ pub bare-of : (toks bare : List Tok) (count : ℕ) → count ≤ length toks →
 bare-of toks bare count h e g =
     let long : length bare ≡ count = ap length e ∙ length-take-le count toks h in
     ap (λ n. drop 1 (take (n - 1) bare)) (sym long) ∙ bare-group bare g ∙ ap without_braces e
-
-pub some-of : (toks bare : List Tok) (count : ℕ) → count ≤ length toks → bare ≡ take count toks → is_group bare ≡ true → 1 < count
-some-of toks bare count h e g =
-    let long : length bare ≡ count = ap length e ∙ length-take-le count toks h in
-    let some = group-some bare g in
-    omega (arith, long, some)

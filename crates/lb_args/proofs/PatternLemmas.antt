@@ -1,9 +1,8 @@
 -- Where the parameters of a pattern stand, and arguments behind those that are there.
-use Rattle.std.proofs.Common.{◌≡◌, ◌∙◌, ◌++◌, ◌<◌, Bool, true, false, ℕ, suc, List, [], ◌∷◌, refl, ap, sym, take, drop, length}
-use Rattle.std.specs.Prelude.{Option, Some, None, get_or}
+use Rattle.std.proofs.Common.{◌≡◌, ◌∙◌, ◌++◌, Bool, ℕ, List, [], ◌∷◌, refl, ap, sym, take, drop}
+use Rattle.std.specs.Prelude.{Option}
 use Rattle.std.specs.Option.{option_map}
-use Rattle.std.proofs.Math.Seq.{drop-cons, take-suc}
-use Rattle.std.proofs.lemmas.List.{append_assoc, append-nil}
+use Rattle.std.proofs.lemmas.List.{append_assoc}
 use Rattle.lb_base.specs.declared.token.Tok.{Tok}
 use Rattle.lb_base.specs.declared.token.Tok.TheVariants.{Char, Word, Active, Param}
 use Rattle.lb_values.specs.declared.cell.Cell.{Cell}
@@ -14,57 +13,11 @@ use Rattle.lb_model.specs.Configs.{Config, in_file, looks_in_file}
 use Rattle.lb_model.specs.Settings.{noted_all}
 use Rattle.lb_model.specs.Readings.{Outcome, Took, looks_taken, next_as, noting, taken, then_taken, whole}
 use Rattle.lb_model.specs.Readings.Outcome.{Whole, Failed}
-use Rattle.lb_model_grammar.specs.Arguments.{argument, front, optional, parts_of}
-use Rattle.lb_args.specs.Further.{AtParameter, further, is_parameter}
-use Rattle.lb_args.proofs.ReadingLemmas.{Owed, looks_both, owed-as, owed-start, took_both}
+use Rattle.lb_model_grammar.specs.Arguments.{argument, front, parts_of}
+use Rattle.lb_args.specs.Further.{AtParameter, further}
+use Rattle.lb_args.proofs.ReadingLemmas.{Owed, looks_both, owed-as, took_both}
 
 -- ---- Parameters
-
-part-plain : (t : Tok) (r : List Tok) → is_parameter t ≡ false → parts_of (t ∷ r) ≡ (t ∷ (parts_of r).0, (parts_of r).1)
-part-plain (Char category code) r e = refl
-part-plain (Word name) r e = refl
-part-plain (Active code) r e = refl
-part-plain (Param n) r e = cc
-
--- one token more is no parameter
-pub parts-next : (toks : List Tok) (i : ℕ) (d : Tok) → i < length toks → is_parameter (get_or toks i d) ≡ false
-    → parts_of toks ≡ (take i toks ++ (parts_of (drop i toks)).0, (parts_of (drop i toks)).1)
-    → parts_of toks ≡ (take (suc i) toks ++ (parts_of (drop (suc i) toks)).0, (parts_of (drop (suc i) toks)).1)
-parts-next toks i d h e parts =
-    let t = get_or toks i d in
-    let r = drop (suc i) toks in
-    let q = ap parts_of (drop-cons toks i d h) ∙ part-plain t r e in
-    parts
-    ∙ (λ j. (take i toks ++ (q j).0, (q j).1))
-    ∙ ap (λ l. (l, (parts_of r).1)) (sym (append_assoc (take i toks) (t ∷ []) (parts_of r).0) ∙ ap (λ l. l ++ (parts_of r).0) (sym (take-suc toks i d h)))
-
-front-empty : (l : List Tok) → AtParameter l → (parts_of l).0 ≡ []
-front-empty [] h = refl
-front-empty (Param n ∷ l) h = refl
-front-empty (Char category code ∷ l) h = elim h [ ]
-front-empty (Word name ∷ l) h = elim h [ ]
-front-empty (Active code ∷ l) h = elim h [ ]
-
-pub parts-at : (toks : List Tok) (i : ℕ) → AtParameter (drop i toks) → parts_of toks ≡ (take i toks ++ (parts_of (drop i toks)).0, (parts_of (drop i toks)).1)
-    → parts_of toks ≡ (take i toks, (parts_of (drop i toks)).1)
-parts-at toks i h parts =
-    parts ∙ ap (λ l. (l, (parts_of (drop i toks)).1)) (ap (λ l. take i toks ++ l) (front-empty (drop i toks) h) ∙ append-nil (take i toks))
-
-at-one : (t : Tok) (r : List Tok) → is_parameter t ≡ true → AtParameter (t ∷ r)
-at-one (Param n) r e = tt
-at-one (Char category code) r e = cc
-at-one (Word name) r e = cc
-at-one (Active code) r e = cc
-
-pub at-parameter : (toks : List Tok) (i : ℕ) (d : Tok) → i < length toks → is_parameter (get_or toks i d) ≡ true → AtParameter (drop i toks)
-at-parameter toks i d h e = rw (drop-cons toks i d h) (at-one (get_or toks i d) (drop (suc i) toks) e)
-
-drop-whole : (toks : List Tok) → drop (length toks) toks ≡ []
-drop-whole [] = refl
-drop-whole (t ∷ toks) = drop-whole toks
-
-pub at-end : (toks : List Tok) → AtParameter (drop (length toks) toks)
-at-end toks = rw (drop-whole toks) tt
 
 -- a parameter and what stands before the next one
 pub parts-of-parameter : (rest : List Tok) (t : Tok) (behind delimiter next : List Tok) (count : ℕ) → rest ≡ t ∷ behind → AtParameter rest → parts_of behind ≡ (take count behind, (parts_of (drop count behind)).1)
@@ -103,13 +56,6 @@ pub further-plain : (so_far : List (List Tok)) (pattern : Pattern) (c : Config)
 further-plain so_far pattern c =
     let t = taken in_file (front (parts_of pattern.tokens).0) c in
     next-next t.outcome t.next (λ x d. each_argument pattern.long (parts_of pattern.tokens).1 d) (λ xs e. whole (so_far ++ xs) e)
-
-further-same : (o : Outcome (List (List Tok))) (c : Config) → next_as o c (λ xs e. whole ([] ++ xs) e) ≡ record { outcome = o; next = c }
-further-same (Whole xs) c = refl
-further-same (Failed k) c = refl
-
-pub further-none : (took : Config → Took (List (List Tok))) (c : Config) → took c ≡ further [] took c
-further-none took c = sym (further-same (took c).outcome (took c).next)
 
 -- the arguments of a macro, by whether it has an optional one
 pub owed-arguments : {S : Type 0} (F : Ghosts S) (pattern : Pattern) (first : Option (List Tok)) (s : S) → pattern.first ≡ first

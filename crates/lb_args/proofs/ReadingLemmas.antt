@@ -1,6 +1,6 @@
 -- A reading over a feed: what is owed at its start is what is owed of it now, and how it ends.
-use Rattle.std.proofs.Common.{◌≡◌, ◌∙◌, ◌++◌, ◌+◌, ◌<◌, ◌≤◌, Bool, true, false, ℕ, zero, suc, List, [], ◌∷◌, refl, ap, sym, arith, Ok, Err}
-use Rattle.std.specs.Prelude.{Option, Some, None, if◌then◌else◌, Result, IfOk, IfErr, OnOk, nat_lt, map, length}
+use Rattle.std.proofs.Common.{◌≡◌, ◌∙◌, ◌++◌, ◌+◌, ◌<◌, ◌≤◌, Bool, false, suc, List, [], ◌∷◌, refl, ap, sym, arith, Ok, Err}
+use Rattle.std.specs.Prelude.{Option, Some, None, if◌then◌else◌, Result}
 use Rattle.std.specs.Option.{option_map}
 use Rattle.std.proofs.lemmas.Bool.{le-ltb, lt-ltb}
 use Rattle.lb_base.specs.declared.fault.Kind.{Kind}
@@ -15,16 +15,15 @@ use Rattle.lb_model_grammar.specs.declared.given.Want.TheVariants.{Plain}
 use Rattle.lb_model_grammar.specs.Scans.{Meant, tokens_in}
 use Rattle.lb_model_grammar.specs.Scans.Meant.{Open, Ended, Wrong}
 use Rattle.lb_model.specs.declared.feed.Feed.{Ghosts}
-use Rattle.lb_model.specs.declared.place.Got.TheVariants.{Tok as GotTok, End as GotEnd, Fault as GotFault}
+use Rattle.lb_model.specs.declared.place.Got.TheVariants.{End as GotEnd, Fault as GotFault}
 use Rattle.lb_model.specs.Configs.{Config, Taking, asked, in_file, looks_in_file, put_back, taken_by}
 use Rattle.lb_model.specs.Fed.{Reads}
-use Rattle.lb_model.specs.Readings.{Noted, Outcome, Took, behind_got, failed, looks_taken, looks_then, looks_within, next_as, noting, returned, taken, taken_within, taken_as, looks_as, then_taken, unless_fault, whole, looks_behind}
-use Rattle.lb_model.specs.Readings.Outcome.{Whole, Failed}
+use Rattle.lb_model.specs.Readings.{Took, behind_got, failed, looks_taken, looks_then, looks_within, noting, returned, taken, taken_within, taken_as, looks_as, then_taken, unless_fault, whole, looks_behind}
 use Rattle.lb_model.specs.Settings.{Notes, Setting, noted_all}
 use Rattle.lb_model.specs.Sources.{pending}
 use Rattle.lb_model.specs.Stops.{MayStopAt}
 use Rattle.lb_model.proofs.FedLemmas.{fault-read}
-use Rattle.lb_model.proofs.TakenLemmas.{noted-append, noted-none, reading, reading-done, reading-end, reading-fault, reading-token, reading-wrong}
+use Rattle.lb_model.proofs.TakenLemmas.{noted-append, noted-none, reading, reading-done, reading-end, reading-token, reading-wrong}
 
 -- what is owed of a call now comes to what was owed at its start
 pub record Owed {S X : Type 0} (F : Ghosts S) (took : Config → Took X) (looks : Config → List Cell) (start : Config → Took X) (start_looks : Config → List Cell) (now old : S) : Type 0 where
@@ -139,11 +138,6 @@ reads-wrong F m k new old o e =
       fault = λ p h. o.rest p h ∙ reading-wrong false looks_in_file m k (F.configuration new p) (F.notes new) e;
       origin = o.origin;
     }
-
--- want of memory
-pub reads-memory : {S X : Type 0} (F : Ghosts S) {took start : Config → Took X} {looks start_looks : Config → List Cell} (new old : S)
-    → Owed F took looks start start_looks new old → Reads F start start_looks (Err Memory) new old
-reads-memory F new old o = record { narrows = o.narrows; ok = tt; fault = tt; origin = o.origin }
 
 -- ---- Another call reads on
 
@@ -326,16 +320,5 @@ owed-as F took other looks now old same o =
     record {
       narrows = o.narrows;
       rest = λ p h. o.rest p h ∙ ap (λ t. record { took = t; notes = option_map (noted_all (looks (F.configuration now p))) (F.notes now) }) (same (F.configuration now p));
-      origin = o.origin;
-    }
-
--- nothing is owed any more
-pub reads-all : {S X : Type 0} (F : Ghosts S) {start : Config → Took X} {start_looks : Config → List Cell} (x : X) (new old : S)
-    → Owed F (λ c. whole x c) (λ c. []) start start_looks new old → Reads F start start_looks (Ok x) new old
-reads-all F x new old o =
-    record {
-      narrows = o.narrows;
-      ok = λ p h. o.rest p h ∙ ap (λ n. record { took = whole x (F.configuration new p); notes = n }) (noted-none (F.notes new));
-      fault = tt;
       origin = o.origin;
     }

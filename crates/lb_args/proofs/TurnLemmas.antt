@@ -1,5 +1,5 @@
 -- What is owed of an argument behind one more token, by what that token does to it.
-use Rattle.std.proofs.Common.{◌≡◌, ◌∙◌, ◌++◌, ◌<◌, ◌≤◌, ◌∷◌, [], Bool, ℕ, List, ap, sym, refl}
+use Rattle.std.proofs.Common.{◌≡◌, ◌∙◌, ◌++◌, ◌∷◌, [], Bool, ℕ, List, ap, sym, refl}
 use Rattle.std.specs.Prelude.{Option, Some, length}
 use Rattle.lb_base.specs.declared.token.Tok.{Tok}
 use Rattle.lb_model.specs.declared.feed.Feed.{Ghosts}

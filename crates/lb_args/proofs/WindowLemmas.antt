@@ -1,21 +1,21 @@
 -- Tokens of a delimited argument, of which some are decided.
-use Rattle.std.proofs.Common.{◌≡◌, ◌∙◌, ◌++◌, ◌<◌, ◌≤◌, Bool, true, false, ℕ, zero, suc, List, [], ◌∷◌, refl, ap, sym, take, drop, length, arith, add-one, ◌+◌}
-use Rattle.std.specs.Prelude.{Some, None, if◌then◌else◌, get_or}
-use Rattle.std.proofs.Math.Seq.{drop-cons, take-suc}
+use Rattle.std.proofs.Common.{◌≡◌, ◌∙◌, ◌++◌, ◌<◌, ◌≤◌, Bool, true, false, ℕ, suc, List, [], ◌∷◌, refl, ap, sym, take, drop, length, arith, add-one, ◌+◌}
+use Rattle.std.specs.Prelude.{if◌then◌else◌, get_or}
+use Rattle.std.proofs.Math.Seq.{drop-cons, drop-length}
 use Rattle.std.proofs.lemmas.List.{take-append-le, drop-append-le}
-use Rattle.lb_base.specs.declared.fault.Kind.TheVariants.{Runaway, UseMismatch}
+use Rattle.lb_base.specs.declared.fault.Kind.TheVariants.{UseMismatch}
 use Rattle.lb_base.specs.declared.token.Category.TheVariants as category
 use Rattle.lb_base.specs.declared.token.Tok.{Tok}
 use Rattle.lb_base.specs.declared.token.Tok.TheVariants.{Char, Param}
 use Rattle.lb_model_grammar.specs.declared.given.Given.{Given}
 use Rattle.lb_model_grammar.specs.declared.given.Given.TheVariants.{Tok as AToken, End as AnEnd}
 use Rattle.lb_model_grammar.specs.declared.given.Want.TheVariants.{Plain}
-use Rattle.lb_model_grammar.specs.Arguments.{Begun, argument, at_base, begins, front, front_as, optional, undelimited, brace_of, delimited, delimited_as, delimited_by, without_braces}
-use Rattle.lb_model_grammar.specs.Arguments.Begun.{Does, May, Cut, DoesNot}
+use Rattle.lb_model_grammar.specs.Arguments.{Begun, argument, at_base, begins, front, front_as, optional, undelimited, brace_of, delimited, delimited_as, delimited_by}
+use Rattle.lb_model_grammar.specs.Arguments.Begun.{May, Cut, DoesNot}
 use Rattle.lb_model_grammar.specs.Same.{tok_eq}
-use Rattle.lb_model_grammar.specs.Scans.{Meant, is_other, is_space}
+use Rattle.lb_model_grammar.specs.Scans.{is_other, is_space}
 use Rattle.lb_model_grammar.specs.Scans.Meant.{Open, Ended, Wrong}
-use Rattle.lb_args.specs.Fits.{Opens, decided, given_before}
+use Rattle.lb_args.specs.Fits.{decided, given_before}
 
 -- ---- What is given
 
@@ -25,20 +25,6 @@ before-append (x ∷ l) t given = ap (λ more. AToken x ∷ more) (before-append
 
 given-next : (toks : List Tok) (i : ℕ) (d : Tok) (given : List Given) → i < length toks → given_before (drop i toks) given ≡ AToken (get_or toks i d) ∷ given_before (drop (suc i) toks) given
 given-next toks i d given h = ap (λ l. given_before l given) (drop-cons toks i d h)
-
--- ---- Delimiters
-
-pub begins-next : (delimiter window : List Tok) (i : ℕ) (d e : Tok) (given : List Given) → i < length delimiter → i < length window → tok_eq (get_or delimiter i d) (get_or window i e) ≡ true
-    → begins (drop i delimiter) (given_before (drop i window) given) ≡ begins (drop (suc i) delimiter) (given_before (drop (suc i) window) given)
-begins-next delimiter window i d e given h k same =
-    (λ j. begins (drop-cons delimiter i d h j) (given-next window i e given k j))
-    ∙ ap (λ b. if b then begins (drop (suc i) delimiter) (given_before (drop (suc i) window) given) else DoesNot) same
-
-pub begins-not : (delimiter window : List Tok) (i : ℕ) (d e : Tok) (given : List Given) → i < length delimiter → i < length window → tok_eq (get_or delimiter i d) (get_or window i e) ≡ false
-    → begins (drop i delimiter) (given_before (drop i window) given) ≡ DoesNot
-begins-not delimiter window i d e given h k differ =
-    (λ j. begins (drop-cons delimiter i d h j) (given-next window i e given k j))
-    ∙ ap (λ b. if b then begins (drop (suc i) delimiter) (given_before (drop (suc i) window) given) else DoesNot) differ
 
 -- ---- Decided tokens
 
@@ -65,31 +51,13 @@ decided-as long delimiter toks level count d given begun h e =
     ∙ ap (λ b. delimited_by b (take count toks) (delimited_as (brace_of long t) level (take count toks) t (λ l b. delimited long delimiter l b (given_before (drop (suc count) toks) given))))
     ((λ j. at_base level (begins delimiter (sym next j))) ∙ e)
 
--- one token more is decided
-pub decided-more : (long : Bool) (delimiter toks : List Tok) (level count : ℕ) (d : Tok) (given : List Given) → count < length toks
-    → delimited long delimiter level (take count toks ++ get_or toks count d ∷ []) (given_before (drop (suc count) toks) given) ≡ decided long delimiter toks level (suc count) given
-decided-more long delimiter toks level count d given h = ap (λ b. delimited long delimiter level b (given_before (drop (suc count) toks) given)) (sym (take-suc toks count d h))
-
--- all are decided
-drop-whole : (toks : List Tok) → drop (length toks) toks ≡ []
-drop-whole [] = refl
-drop-whole (t ∷ toks) = drop-whole toks
-
-pub all-decided : (long : Bool) (delimiter toks : List Tok) (level : ℕ) → Opens (decided long delimiter toks level (length toks))
-all-decided long delimiter toks level =
-    let body = take (length toks) toks in
-    record {
-      more = ap (λ l. delimited long delimiter level body (given_before l [])) (drop-whole toks);
-      cut = ap (λ l. delimited long delimiter level body (given_before l (AnEnd ∷ []))) (drop-whole toks);
-    }
-
 -- less than the delimiter is undecided, and is its beginning
 pub part-fits : (delimiter window : List Tok) (n : ℕ) → n ≡ length window → n < length delimiter
     → ((given : List Given) → begins delimiter (given_before window given) ≡ begins (drop n delimiter) (given_before (drop n window) given))
     → (begins delimiter (given_before window []) ≡ May) × (begins delimiter (given_before window (AnEnd ∷ [])) ≡ Cut)
 part-fits delimiter window n e h same =
     let cons = drop-cons delimiter n (Param 0) h in
-    let none : drop n window ≡ [] = ap (λ k. drop k window) e ∙ drop-whole window in
+    let none : drop n window ≡ [] = ap (λ k. drop k window) e ∙ drop-length window in
     (same [] ∙ (λ i. begins (cons i) (given_before (none i) [])), same (AnEnd ∷ []) ∙ (λ i. begins (cons i) (given_before (none i) (AnEnd ∷ []))))
 
 -- ---- What stands before the first parameter
@@ -110,7 +78,7 @@ pub front-not : (toks : List Tok) (i : ℕ) (d t : Tok) (given : List Given) →
 front-not toks i d t given h e = ap (λ l. front l (AToken t ∷ given)) (drop-cons toks i d h) ∙ ap (λ b. front_as (if b then begins (drop (suc i) toks) given else DoesNot)) e
 
 pub front-done : (toks : List Tok) (n : ℕ) → n ≡ length toks → front (drop n toks) [] ≡ Ended [] []
-front-done toks n e = ap (λ l. front l []) (ap (λ k. drop k toks) e ∙ drop-whole toks)
+front-done toks n e = ap (λ l. front l []) (ap (λ k. drop k toks) e ∙ drop-length toks)
 
 -- ---- An optional argument
 

@@ -46,6 +46,7 @@ pub record GoesOn (long : Bool) (delimiter toks : List Tok) (count level : ℕ) 
   pub short : length toks < count + length delimiter
   pub small : level ≤ count
 
+-- what is told beside what it comes to
 abbrev pub Goes : Settled → Bool → List Tok → List Tok → Type 0
 Goes (settled.Open count level) long delimiter toks = GoesOn long delimiter toks count level
 Goes (settled.Whole count) long delimiter toks = count ≤ length toks

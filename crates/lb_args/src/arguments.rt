@@ -52,7 +52,8 @@ fn read_argument<F: Feed>(
     long: bool,
     delimiter: &[Tok],
 ) -> Result<TokList, Stop>
-    ensures reads { Reads F.Feed (taken in_file (argument long delimiter.now)) (looks_taken in_file looks_in_file (argument long delimiter.now)) result feed.new feed.old }
+    ensures reads { Reads F.Feed (taken in_file (argument long delimiter.now))
+        (looks_taken in_file looks_in_file (argument long delimiter.now)) result feed.new feed.old }
 {
     if delimiter.is_empty() {
         return read_undelimited(alloc, feed, long);
@@ -69,7 +70,8 @@ fn read_each<F: Feed>(
     so_far: Arguments,
 ) -> Result<Arguments, Stop>
     requires { AtParameter parameters.now }
-    ensures reads { Reads F.Feed (further so_far (each_argument long (parts_of parameters.now).1)) (looks_each long (parts_of parameters.now).1) result feed.new feed.old }
+    ensures reads { Reads F.Feed (further so_far (each_argument long (parts_of parameters.now).1))
+        (looks_each long (parts_of parameters.now).1) result feed.new feed.old }
 {
     let mut arguments = so_far;
     let mut rest = parameters;

@@ -21,7 +21,8 @@ pub(crate) fn read_delimited<F: Feed>(
     delimiter: &[Tok],
 ) -> Result<TokList, Stop>
     requires { 0 < length delimiter.now }
-    ensures reads { Reads F.Feed (taken in_file (delimited long delimiter.now 0 [])) (looks_taken in_file looks_in_file (delimited long delimiter.now 0 [])) result feed.new feed.old }
+    ensures reads { Reads F.Feed (taken in_file (delimited long delimiter.now 0 []))
+        (looks_taken in_file looks_in_file (delimited long delimiter.now 0 [])) result feed.new feed.old }
 {
     let mut toks = TokList::new(alloc);
     let mut count = 0usize;

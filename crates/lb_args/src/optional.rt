@@ -22,7 +22,8 @@ pub(crate) fn read_optional<F: Feed>(
     long: bool,
     default: &TokList,
 ) -> Result<TokList, Stop>
-    ensures reads { Reads F.Feed (taken in_file (optional long default.now)) (looks_taken in_file looks_in_file (optional long default.now)) result feed.new feed.old }
+    ensures reads { Reads F.Feed (taken in_file (optional long default.now))
+        (looks_taken in_file looks_in_file (optional long default.now)) result feed.new feed.old }
 {
     'tokens: for _turn in 0..u64::MAX {
         match feed.in_file() {

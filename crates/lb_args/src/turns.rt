@@ -92,7 +92,8 @@ pub(crate) fn level_then(tok: &Tok, level: u64) -> Option<u64>
 
 // One token more than these.
 fn longer(count: usize, level: u64) -> Step
-    ensures step { (body : List AToken) (t : AToken) (more : ℕ → List AToken → Meant (List AToken)) → length body ≡ count → longer body t (more level) ≡ stepped result body t more }
+    ensures step { (body : List AToken) (t : AToken) (more : ℕ → List AToken → Meant (List AToken)) → length body ≡ count
+        → longer body t (more level) ≡ stepped result body t more }
     ensures small { level_of result ≤ level }
 {
     if count < MOST_TOKENS {
@@ -104,7 +105,8 @@ fn longer(count: usize, level: u64) -> Step
 // What a token does to a group that has so many tokens, of which so many braces are open; none where it ends it.
 pub(crate) fn group_turn(brace: Brace, level: u64, count: usize) -> Option<Step>
     requires { level + 1 < 2 ^ 64 }
-    ensures turn { (body : List AToken) (t : AToken) (more : ℕ → List AToken → Meant (List AToken)) (given : List AGiven) → length body ≡ count → group_as brace level body t more given ≡ turned result body t more given }
+    ensures turn { (body : List AToken) (t : AToken) (more : ℕ → List AToken → Meant (List AToken)) (given : List AGiven) → length body ≡ count
+        → group_as brace level body t more given ≡ turned result body t more given }
     ensures small { IfSome result (λ step. level_of step ≤ level + 1) }
 {
     match brace {
@@ -121,7 +123,8 @@ pub(crate) fn group_turn(brace: Brace, level: u64, count: usize) -> Option<Step>
 // What a token that does not begin the delimiter does to a delimited argument.
 pub(crate) fn delimited_step(brace: Brace, level: u64, count: usize) -> Step
     requires { level + 1 < 2 ^ 64 }
-    ensures step { (body : List AToken) (t : AToken) (more : ℕ → List AToken → Meant (List AToken)) → length body ≡ count → delimited_as brace level body t more ≡ stepped result body t more }
+    ensures step { (body : List AToken) (t : AToken) (more : ℕ → List AToken → Meant (List AToken)) → length body ≡ count
+        → delimited_as brace level body t more ≡ stepped result body t more }
     ensures small { level_of result ≤ level + 1 }
 {
     match brace {

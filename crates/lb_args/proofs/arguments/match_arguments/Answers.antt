@@ -1,4 +1,4 @@
-use Rattle.std.proofs.Common.{◌≡◌, ◌∙◌, ◌++◌, ◌∷◌, [], Some, ap, sym}
+use Rattle.std.proofs.Common.{◌∙◌, ◌++◌, ◌∷◌, [], Some, ap, sym}
 use Rattle.lb_model.specs.Arguments.{looks_plain_arguments, plain_arguments}
 use Rattle.lb_model.specs.Configs.{in_file, looks_in_file}
 use Rattle.lb_model.specs.Readings.{looks_taken, taken}

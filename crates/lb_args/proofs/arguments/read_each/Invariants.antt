@@ -1,4 +1,4 @@
-use Rattle.std.proofs.Common.{ℕ, length}
+use Rattle.std.proofs.Common.{length}
 use Rattle.lb_model.specs.Arguments.{each_argument, looks_each}
 use Rattle.lb_model_grammar.specs.Arguments.{parts_of}
 use Rattle.lb_args.specs.Further.{AtParameter, further}

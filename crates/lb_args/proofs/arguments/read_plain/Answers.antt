@@ -1,4 +1,4 @@
-use Rattle.std.proofs.Common.{◌≡◌, ◌∙◌, ap, sym}
+use Rattle.std.proofs.Common.{◌∙◌, ap, sym}
 use Rattle.lb_model.specs.Arguments.{each_argument, looks_each}
 use Rattle.lb_model.specs.Configs.{in_file, looks_in_file}
 use Rattle.lb_model.specs.Readings.{looks_taken, taken}

@@ -1,4 +1,4 @@
-use Rattle.std.proofs.Common.{◌≡◌, ◌∙◌, ◌+◌, sym, ap}
+use Rattle.std.proofs.Common.{◌∙◌, sym, ap}
 use Rattle.lb_model_grammar.specs.Arguments.{level_then}
 use Rattle.lb_args.proofs.BareLemmas.{closes-at}
 use Rattle.lb_args.proofs.bare.closes_at_end.Goals as goal

@@ -1,4 +1,4 @@
-use Rattle.std.proofs.Common.{◌≡◌, ◌∙◌, ◌-◌, true, sym, ap, take, drop}
+use Rattle.std.proofs.Common.{◌≡◌, ◌∙◌, true, sym, ap, take, drop}
 use Rattle.lb_args.specs.Fits.{is_group}
 use Rattle.lb_args.proofs.BareLemmas.{bare-of}
 use Rattle.lb_args.proofs.bare.without_braces.Goals as goal

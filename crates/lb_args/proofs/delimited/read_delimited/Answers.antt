@@ -1,6 +1,8 @@
-use Rattle.std.proofs.Common.{◌≡◌, ◌∙◌, ◌∷◌, [], List, ap, sym, refl, take, subst}
+use Rattle.std.proofs.Common.{◌∙◌, [], ap, sym, take, subst}
 use Rattle.lb_base.specs.declared.fault.Kind.TheVariants.{Runaway}
-use Rattle.lb_model_grammar.specs.Arguments.{without_braces}
+use Rattle.lb_model.specs.Configs.{in_file, looks_in_file}
+use Rattle.lb_model.specs.Readings.{looks_taken, taken}
+use Rattle.lb_model_grammar.specs.Arguments.{delimited, without_braces}
 use Rattle.lb_model_grammar.specs.Scans.Meant.{Ended}
 use Rattle.lb_args.specs.Fits.{GoesOn, decided, settles}
 use Rattle.lb_args.proofs.ReadingLemmas.{fed, owed-is, reads-done, reads-end, reads-fault, reads-wrong}
@@ -34,13 +36,14 @@ returns-in-Whole g c =
     let delimiter = c.args.delimiter.now in
     let pushed = c.as_slice.result.now in
     let settled = c.settle-settled.result in
+    let took = taken in_file (delimited long delimiter 0 []) in
+    let looks = looks_taken in_file looks_in_file (delimited long delimiter 0 []) in
     let now =
-    delimited-token F long delimiter l.toks pushed l.level l.count s.tok settled c.in_file.new.self l.feed c.args.feed.now l.invariant.owed l.invariant.goes
+    delimited-token F long delimiter l.toks pushed l.level l.count s.tok settled {start = took} {start_looks = looks} c.in_file.new.self l.feed c.args.feed.now l.invariant.owed l.invariant.goes
     (fed F _ _ c.in_file.new.self l.feed s.field-0-is s.ensures.narrows s.ensures.ok s.ensures.notes s.ensures.origin) (c.as_slice.ensures ∙ c.in_ok-push-in-Ok-Some.ensures.ok) c.settle-settled.ensures.settles
     in
     record {
-      reads = reads-done F (settles settled long delimiter pushed) c.without_braces.result c.in_file.new.self c.args.feed.now now
-          
+      reads = reads-done F (settles settled long delimiter pushed) {start = took} {start_looks = looks} c.without_braces.result c.in_file.new.self c.args.feed.now now
           (
           ap (λ s. settles s long delimiter pushed []) c.in-Whole.is
           ∙ ap (λ l. Ended (without_braces (take c.in-Whole.last l)) []) c.as_slice.ensures
@@ -57,11 +60,13 @@ returns-in-Fails g c =
     let delimiter = c.args.delimiter.now in
     let pushed = c.as_slice.result.now in
     let settled = c.settle-settled.result in
+    let took = taken in_file (delimited long delimiter 0 []) in
+    let looks = looks_taken in_file looks_in_file (delimited long delimiter 0 []) in
     let now =
-    delimited-token F long delimiter l.toks pushed l.level l.count s.tok settled c.in_file.new.self l.feed c.args.feed.now l.invariant.owed l.invariant.goes
+    delimited-token F long delimiter l.toks pushed l.level l.count s.tok settled {start = took} {start_looks = looks} c.in_file.new.self l.feed c.args.feed.now l.invariant.owed l.invariant.goes
     (fed F _ _ c.in_file.new.self l.feed s.field-0-is s.ensures.narrows s.ensures.ok s.ensures.notes s.ensures.origin) (c.as_slice.ensures ∙ c.in_ok-push-in-Ok-Some.ensures.ok) c.settle-settled.ensures.settles
     in
-    record { reads = reads-wrong F (settles settled long delimiter pushed) c.in-Fails.kind c.in_file.new.self c.args.feed.now now (ap (λ s. settles s long delimiter pushed []) c.in-Fails.is) }
+    record { reads = reads-wrong F (settles settled long delimiter pushed) {start = took} {start_looks = looks} c.in-Fails.kind c.in_file.new.self c.args.feed.now now (ap (λ s. settles s long delimiter pushed []) c.in-Fails.is) }
 
 pub tokens-preserved : goal.tokens-preserved
 tokens-preserved g c =
@@ -72,12 +77,14 @@ tokens-preserved g c =
     let delimiter = c.args.delimiter.now in
     let pushed = c.as_slice.result.now in
     let settled = c.settle-settled.result in
+    let took = taken in_file (delimited long delimiter 0 []) in
+    let looks = looks_taken in_file looks_in_file (delimited long delimiter 0 []) in
     let now =
-    delimited-token F long delimiter l.toks pushed l.level l.count s.tok settled c.in_file.new.self l.feed c.args.feed.now l.invariant.owed l.invariant.goes
+    delimited-token F long delimiter l.toks pushed l.level l.count s.tok settled {start = took} {start_looks = looks} c.in_file.new.self l.feed c.args.feed.now l.invariant.owed l.invariant.goes
     (fed F _ _ c.in_file.new.self l.feed s.field-0-is s.ensures.narrows s.ensures.ok s.ensures.notes s.ensures.origin) (c.as_slice.ensures ∙ c.in_ok-push-in-Ok-Some.ensures.ok) c.settle-settled.ensures.settles
     in
     record {
-      owed = owed-is F (settles settled long delimiter pushed) (decided long delimiter c.push.new.self c.in-Open.depth c.in-Open.further) c.in_file.new.self c.args.feed.now
+      owed = owed-is F (settles settled long delimiter pushed) (decided long delimiter c.push.new.self c.in-Open.depth c.in-Open.further) {start = took} {start_looks = looks} c.in_file.new.self c.args.feed.now
           (ap (λ s. settles s long delimiter pushed) c.in-Open.is ∙ ap (λ l. decided long delimiter l c.in-Open.depth c.in-Open.further) c.as_slice.ensures) now;
       goes = subst (λ l. GoesOn long delimiter l c.in-Open.further c.in-Open.depth) c.as_slice.ensures c.in-Open.ensures.goes;
     }

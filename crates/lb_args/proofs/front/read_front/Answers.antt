@@ -1,4 +1,4 @@
-use Rattle.std.proofs.Common.{◌≡◌, ◌∙◌, ◌+◌, ◌∷◌, [], List, ap, sym, drop, length, refl, arith}
+use Rattle.std.proofs.Common.{◌≡◌, ◌∙◌, ◌+◌, [], List, ap, sym, drop, length, refl, arith}
 use Rattle.lb_base.specs.declared.fault.Kind.TheVariants.{UseMismatch}
 use Rattle.lb_model_grammar.specs.Arguments.{front}
 use Rattle.lb_model_grammar.specs.Same.{tok_eq}
@@ -49,7 +49,7 @@ returns-in-Ok-Some g c =
     let differ = ap (λ t. tok_eq t s.tok) (sym c.index-toks-index.is) ∙ sym c.same_token.ensures ∙ c.if-same_token.false in
     let r = λ (given : List Given). Wrong UseMismatch in
     let now = owed-token F (front (drop l.index toks)) r s.tok c.in_file.new.self l.feed c.args.feed.now l.invariant.owed (front-open toks l.index c.tokens-test.true)
-        (fed F _ _ c.in_file.new.self l.feed s.field-0-is s.ensures.narrows s.ensures.ok s.ensures.notes s.ensures.origin) (λ given. front-not toks l.index _ s.tok given c.tokens-test.true differ) in
+    (fed F _ _ c.in_file.new.self l.feed s.field-0-is s.ensures.narrows s.ensures.ok s.ensures.notes s.ensures.origin) (λ given. front-not toks l.index _ s.tok given c.tokens-test.true differ) in
     record { reads = reads-wrong F r UseMismatch c.in_file.new.self c.args.feed.now now refl }
 
 pub returns : goal.returns

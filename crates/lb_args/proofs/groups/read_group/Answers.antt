@@ -1,6 +1,5 @@
-use Rattle.std.proofs.Common.{◌≡◌, ◌∙◌, ◌≤◌, ◌+◌, ◌∷◌, [], List, ap, sym, refl, arith}
+use Rattle.std.proofs.Common.{◌∙◌, ◌≤◌, ◌+◌, [], ap, sym, refl, arith}
 use Rattle.lb_base.specs.declared.fault.Kind.TheVariants.{Runaway}
-use Rattle.lb_base.specs.declared.token.Tok.{Tok}
 use Rattle.lb_model_grammar.specs.Arguments.{group}
 use Rattle.lb_args.specs.Turns.{level_of, stepped}
 use Rattle.lb_args.proofs.ReadingLemmas.{fed, owed-is, reads-done, reads-end, reads-fault, reads-wrong}
@@ -50,7 +49,7 @@ returns-in-Fails g c =
     (fed F _ _ c.in_file.new.self l.feed s.field-0-is s.ensures.narrows s.ensures.ok s.ensures.notes s.ensures.origin) c.brace_of-brace.ensures c.len.ensures c.group_turn-turn.ensures.turn
     in
     record {
-      reads = reads-wrong F (group_behind long c.group_turn-turn.result l.body s.tok) c.in-Fails.kind c.in_file.new.self c.args.feed.now now 
+      reads = reads-wrong F (group_behind long c.group_turn-turn.result l.body s.tok) c.in-Fails.kind c.in_file.new.self c.args.feed.now now
           (ap (λ t. group_behind long t l.body s.tok []) c.in-Some.is ∙ ap (λ t. stepped t l.body s.tok (λ n b. group long n b [])) c.in-Fails.is);
     }
 
@@ -67,7 +66,6 @@ tokens-preserved g c =
     let n = c.in-Goes.next in
     record {
       owed = owed-is F (group_behind long c.group_turn-turn.result l.body s.tok) (group long n c.push.new.self) c.in_file.new.self c.args.feed.now
-          
           (
           ap (λ t. group_behind long t l.body s.tok) c.in-Some.is
           ∙ (λ i given. stepped (c.in-Goes.is i) l.body s.tok (λ n b. group long n b given))

@@ -1,4 +1,4 @@
-use Rattle.std.proofs.Common.{◌≡◌, ◌∙◌, ◌∷◌, [], List, ap, sym, refl}
+use Rattle.std.proofs.Common.{◌∙◌, ◌∷◌, [], List, ap, sym, refl}
 use Rattle.lb_base.specs.declared.token.Category.TheVariants as category
 use Rattle.lb_base.specs.declared.token.Tok.TheVariants.{Char}
 use Rattle.lb_model_grammar.specs.Arguments.{delimited, optional}

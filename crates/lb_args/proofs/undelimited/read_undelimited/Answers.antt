@@ -1,6 +1,5 @@
-use Rattle.std.proofs.Common.{◌≡◌, ◌∙◌, ◌++◌, ◌∷◌, [], List, ap, sym, refl}
+use Rattle.std.proofs.Common.{◌∙◌, ◌++◌, ◌∷◌, [], ap, sym, refl}
 use Rattle.lb_base.specs.declared.fault.Kind.TheVariants.{Runaway}
-use Rattle.lb_base.specs.declared.token.Tok.{Tok}
 use Rattle.lb_model_grammar.specs.Arguments.{group, undelimited}
 use Rattle.lb_model_grammar.specs.Scans.Meant.{Ended}
 use Rattle.lb_args.specs.Turns.{begun}
