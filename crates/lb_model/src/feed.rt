@@ -23,7 +23,7 @@ pub trait Feed {
     /// The cells that were told while no write stood on them, and those on which one stands, where the cells keep account of them.
     ghost notes: { Self → Option Notes };
 
-    /// Over what the cells were made, and the loans.
+    /// Over what the cells were made, the open groups, and the loans.
     ghost origin: { Self → Origin };
 
     /// As many saves stand as the open groups have made, where the setting agrees.
