@@ -1,0 +1,54 @@
+//! What registers and parameters hold (TeXbook, chapter 24; tex.web, part 17).
+ghost use Rattle.std.specs.Prelude.{[], ◌∷◌};
+ghost use Rattle.lb_rows.specs.Parameters.{parameter_kind};
+ghost use Rattle.lb_values.specs.Registers.{register_cell};
+ghost use Rattle.lb_values.specs.declared.cell.Cell.TheVariants as cells_of;
+ghost use Rattle.lb_model.specs.Quantities.Internal.{Known};
+ghost use Rattle.lb_model.specs.Quantities.{parameter_in, register_in};
+ghost use Rattle.lb_quantities.specs.Finds.{Finds};
+
+use crate::found::Found;
+use lb_base::NoMemory;
+use lb_model::{Cells, reads};
+use lb_model_grammar::Quantity;
+use lb_rows::{Parameter, ParameterKind};
+use lb_values::{Cell, Register};
+
+/// What a parameter holds.
+fn of_parameter<C: Cells>(cells: &mut C, parameter: Parameter) -> Result<Found, NoMemory>
+    ensures finds { Finds C.Cells (λ w s. Known (parameter_in w s parameter (parameter_kind parameter))) (cells_of.Par parameter ∷ []) result cells.new cells.old }
+{
+    let cell = Cell::Par(parameter);
+    let quantity = match parameter.kind() {
+        ParameterKind::Number => Quantity::Number(reads::number(cells, cell)?),
+        ParameterKind::Dimension => Quantity::Dimen(reads::dimension(cells, cell)?),
+        ParameterKind::Glue => Quantity::Skip(reads::glue(cells, cell)?),
+    };
+    Ok(Found::Known(quantity))
+}
+
+/// What a register or a parameter holds.
+pub fn of_register<C: Cells>(cells: &mut C, register: Register) -> Result<Found, NoMemory>
+    ensures finds { Finds C.Cells (λ w s. register_in w s register) (register_cell register ∷ []) result cells.new cells.old }
+{
+    let cell = register.cell();
+    match register {
+        Register::Count(_) => {
+            let number = reads::number(cells, cell)?;
+            Ok(Found::Known(Quantity::Number(number)))
+        }
+        Register::Dimen(_) => {
+            let length = reads::dimension(cells, cell)?;
+            Ok(Found::Known(Quantity::Dimen(length)))
+        }
+        Register::Skip(_) => {
+            let glue = reads::glue(cells, cell)?;
+            Ok(Found::Known(Quantity::Skip(glue)))
+        }
+        Register::Toks(_) => {
+            let tokens = reads::tokens(cells, cell)?;
+            Ok(Found::Tokens(tokens))
+        }
+        Register::Par(parameter) => of_parameter(cells, parameter),
+    }
+}
