@@ -2,6 +2,7 @@
 #![tactic(auto)]
 
 mod boxes;
+mod codes;
 mod found;
 mod indexed;
 mod meanings;

@@ -3,6 +3,7 @@ ghost use Rattle.std.specs.Prelude.{[], ◌∷◌};
 ghost use Rattle.lb_rows.specs.Parameters.{parameter_kind};
 ghost use Rattle.lb_values.specs.Registers.{register_cell};
 ghost use Rattle.lb_values.specs.declared.cell.Cell.TheVariants as cells_of;
+ghost use Rattle.lb_values.specs.declared.meaning.Register.TheVariants as registers_of;
 ghost use Rattle.lb_model.specs.Quantities.Internal.{Known};
 ghost use Rattle.lb_model.specs.Quantities.{parameter_in, register_in};
 ghost use Rattle.lb_quantities.specs.Finds.{Finds};
@@ -27,28 +28,47 @@ fn of_parameter<C: Cells>(cells: &mut C, parameter: Parameter) -> Result<Found, 
     Ok(Found::Known(quantity))
 }
 
+/// The number that a register holds.
+pub fn count<C: Cells>(cells: &mut C, number: u8) -> Result<Found, NoMemory>
+    ensures finds { Finds C.Cells (λ w s. register_in w s (registers_of.Count number)) (cells_of.Count number ∷ []) result cells.new cells.old }
+{
+    let held = reads::number(cells, Cell::Count(number))?;
+    Ok(Found::Known(Quantity::Number(held)))
+}
+
+/// The dimension that a register holds.
+pub fn dimen<C: Cells>(cells: &mut C, number: u8) -> Result<Found, NoMemory>
+    ensures finds { Finds C.Cells (λ w s. register_in w s (registers_of.Dimen number)) (cells_of.Dimen number ∷ []) result cells.new cells.old }
+{
+    let length = reads::dimension(cells, Cell::Dimen(number))?;
+    Ok(Found::Known(Quantity::Dimen(length)))
+}
+
+/// The glue that a register holds.
+pub fn skip<C: Cells>(cells: &mut C, number: u8) -> Result<Found, NoMemory>
+    ensures finds { Finds C.Cells (λ w s. register_in w s (registers_of.Skip number)) (cells_of.Skip number ∷ []) result cells.new cells.old }
+{
+    let glue = reads::glue(cells, Cell::Skip(number))?;
+    Ok(Found::Known(Quantity::Skip(glue)))
+}
+
+/// The tokens that a register holds.
+pub fn toks<C: Cells>(cells: &mut C, number: u8) -> Result<Found, NoMemory>
+    ensures finds { Finds C.Cells (λ w s. register_in w s (registers_of.Toks number)) (cells_of.Toks number ∷ []) result cells.new cells.old }
+{
+    let tokens = reads::tokens(cells, Cell::Toks(number))?;
+    Ok(Found::Tokens(tokens))
+}
+
 /// What a register or a parameter holds.
 pub fn of_register<C: Cells>(cells: &mut C, register: Register) -> Result<Found, NoMemory>
     ensures finds { Finds C.Cells (λ w s. register_in w s register) (register_cell register ∷ []) result cells.new cells.old }
 {
-    let cell = register.cell();
     match register {
-        Register::Count(_) => {
-            let number = reads::number(cells, cell)?;
-            Ok(Found::Known(Quantity::Number(number)))
-        }
-        Register::Dimen(_) => {
-            let length = reads::dimension(cells, cell)?;
-            Ok(Found::Known(Quantity::Dimen(length)))
-        }
-        Register::Skip(_) => {
-            let glue = reads::glue(cells, cell)?;
-            Ok(Found::Known(Quantity::Skip(glue)))
-        }
-        Register::Toks(_) => {
-            let tokens = reads::tokens(cells, cell)?;
-            Ok(Found::Tokens(tokens))
-        }
+        Register::Count(number) => count(cells, number),
+        Register::Dimen(number) => dimen(cells, number),
+        Register::Skip(number) => skip(cells, number),
+        Register::Toks(number) => toks(cells, number),
         Register::Par(parameter) => of_parameter(cells, parameter),
     }
 }
