@@ -7,6 +7,8 @@ mod ending;
 mod file;
 mod history;
 mod name;
+#[cfg(test)]
+mod tests;
 mod word;
 
 pub use body::{BodyText, BodyTurn};
