@@ -5,6 +5,8 @@ mod form;
 mod number;
 mod quantity;
 mod roman;
+#[cfg(test)]
+mod tests;
 mod tokens;
 
 pub use form::in_form;
