@@ -28,7 +28,7 @@ const MOST_PENDING: u64 = 1_000_000;
 
 /// A text that is read, and the tokens that are pending behind it.
 #[derive(Drop)]
-pub struct Layer {
+struct Layer {
     text: Text,
     under: TokStack,
 }
@@ -176,7 +176,7 @@ impl Source {
         end_last(&mut self.layers);
     }
 
-    // The next token, with the codes that are looked at for it. After want of memory nothing is left.
+    // The next token, with the codes that are looked at for it.
     fn next_noted<C: Cells>(
         &mut self,
         alloc: Global,
@@ -205,7 +205,7 @@ impl Source {
         }
     }
 
-    // The next pending token over the innermost text, which is taken.
+    // The next pending token over the innermost text, which is taken. After want of memory nothing is left.
     #[inline(always)]
     #[tactic(auto, using(crate::proofs::LayerLemmas::begins_text))]
     fn pop(&mut self) -> Result<Option<Tok>, NoMemory>
