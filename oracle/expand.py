@@ -589,14 +589,15 @@ class Feeder:
         return self.bare_name()
 
     def bare_name(self):
-        token = self.next()
-        while token is not None and is_space(token):
-            token = self.next()
+        """The name is not at its end where the piece is."""
+        token = must(self.next())
+        while is_space(token):
+            token = must(self.next())
         name = []
-        while token is not None and is_character(token) and not is_space(token):
+        while is_character(token) and not is_space(token):
             name.append(code_of(token))
-            token = self.next()
-        if token is not None and not is_character(token):
+            token = must(self.next())
+        if not is_character(token):
             self.back(token)
         return bytes(name)
 
@@ -646,7 +647,7 @@ class Feeder:
             found.append(self.optional(macro))
         front, parameters = parts_of_pattern(macro.pattern)
         for expected in front:
-            if must(self.in_file()) != expected:
+            if self.in_file() != expected:
                 raise Fault('UseMismatch')
         for delimiter in parameters:
             found.append(self.delimited(delimiter, macro.long) if delimiter else self.undelimited(macro.long))

@@ -6,6 +6,7 @@ import re
 from pathlib import Path
 
 import expand
+import text
 
 draw = random.Random(1984)
 
@@ -100,9 +101,12 @@ def some(choices, least, most):
 
 # ---- arguments
 
-DELIMITERS = ['', '', '', '.', ',', 'ab', 'aab', 'abac', 'a b', r'\\', r'\/ x', r'\par', r'\par.', ' ', '. ', '::', '~', '5', '*', '$', '&', '_']
+DELIMITERS = [
+    '', '', '', '.', ',', 'ab', 'aab', 'abac', 'a b', r'\\', r'\/ x', r'\par', r'\par.', ' ', '. ', '::', '~', '5', '*', '$', '&', '_']
 FRONTS = ['', '', '', '', '.', 'a', 'ab', r'\-', r'\par', '$', '(']
-PIECES = ['a', 'b', 'ab', 'aa', '.', ',', '{', '}', '{.}', '{}', '{ab}', '{{a}b}', '{,.}', ' ', '  ', r'\-', r'\/', r'\\', ':', r'\e', '~', '5', '\n', '%c\n']
+PIECES = [
+    'a', 'b', 'ab', 'aa', '.', ',', '{', '}', '{.}', '{}', '{ab}', '{{a}b}', '{,.}', ' ', '  ', r'\-', r'\/', r'\\', ':', r'\e', '~', '5',
+    '\n', '%c\n']
 BALANCED = [piece for piece in PIECES if piece not in '{}']
 
 
@@ -122,7 +126,8 @@ def argument(delimited):
     if draw.random() < 0.03:
         return draw.choice([r'\par', '\n\n', '}', '{'])
     if not delimited:
-        return draw.choice(['a', '{b}', '{}', ' c', ' {d e}', '\n{f}', r'\-', '{{g}}', '{{}h}', '~', '{\n\n}', r'{\par}', ' ', '{,{.}}', '1'])
+        return draw.choice([
+            'a', '{b}', '{}', ' c', ' {d e}', '\n{f}', r'\-', '{{g}}', '{{}h}', '~', '{\n\n}', r'{\par}', ' ', '{,{.}}', '1'])
     return joined(*some(BALANCED, 0, 4))
 
 
@@ -174,13 +179,16 @@ def optional_arguments():
         shown = ''.join(f'|#{at}' for at in range(1, 2 + second.count('#')))
         meaning = macro(second, f'<{shown}>', long=draw.random() < 0.4, first=draw.choice(['', 'q', r'\b', '{q}', 'q]']))
         line = r'\k' + draw.choice(['', ' ', '\n', ' %\n ', '\n\n', '{}'] if draw.random() < 0.3 else [''])
-        line += draw.choice(['[a]', '[{a}]', '[]', '[{]}]', '[a', '[a{]}b]', '[a}', '[[a]]', ' [ a ]', '', '', '{[}', r'[\par]', '[\n\n]', '*'])
+        line += draw.choice([
+            '[a]', '[{a}]', '[]', '[{]}]', '[a', '[a{]}b]', '[a}', '[[a]]', ' [ a ]', '', '', '{[}', r'[\par]', '[\n\n]', '*'])
         line = joined(line, *(argument(False) for _ in range(second.count('#'))), '.' * second.count('.'))
         yield case(broken(line) if draw.random() < 0.15 else line, 'N', meanings={'k': meaning})
 
 
 def arguments_in_files():
-    for inner in (r'\m', r'\m{a', r'\h a', r'\h', r'\M{a\n', r'\n a', r'\n{a}{', r'\m{a}', r'\o', r'\o[a', 'b', r'\H', r'\H a', r'\string', r'\e'):
+    for inner in (
+            r'\m', r'\m{a', r'\h a', r'\h', r'\M{a\n', r'\n a', r'\n{a}{', r'\m{a}', r'\o', r'\o[a', 'b', r'\H', r'\H a', r'\string',
+            r'\e'):
         for outer in ('z}', '[z].', '{z}', ''):
             yield case(r'\input{a}' + outer, 'N', files={'a.tex': inner.replace(r'\n', '\n') if inner == r'\M{a\n' else inner})
     for inner in (r'\k', r'\k a', r'\k ab', r'\k a.'):
@@ -191,13 +199,19 @@ def arguments_in_files():
 
 OPERANDS = [
     'a', 'a', 'b', 'x', '*', '1', r'\b', r'\c', r'\l', r'\L', r'\s', r'\B', r'\relax', r'\par', r'\noexpand\b', r'\noexpand~', '~', r'\A',
-    r'\noexpand\l', r'\noexpand\U', r'\z', r'\C', r'\iftrue a\else b\fi', r'\number1', r'\string\b', r'\csname U\endcsname', r'\e', '{', '}',
-    '$', '&', '#', '^', '_', r'\N', r'\kern', r'\iftrue', r'\fi', r'\halign', r'\U']
-SMALL = ['0', '1', '2', '3', '-1', '5', "'7", '"A', '`b', '`\\c', r'\d', r'\z', r'\C', r'\count5', r'\value{page}', r'\iftrue1\else2\fi', r'\ifnum1<2 3\fi',
-         '12', r'\number3', '1\\e ', '2147483647', '-2147483647', r'\catcode`\a', r'\e4', r'\iftrue2', r'\ifcase1 4\or2\or3\fi']
-LENGTHS = ['0pt', '1pt', '-1pt', '1.5pt', '16383.99999pt', '1in', r'\D', r'\hsize', r'\dimen5', r'\wd3', '2\\D', '.5\\hsize', '3sp', '1 PT', '-\\dp3']
-IFX = ['a', 'b', r'\b', r'\c', r'\U', r'\V', r'\halign', r'\l', 'x', r'\relax', r'\R', r'\z', r'\C', r'\S', r'\skip', '~', r'\A', r'\m', r'\M',
-       r'\noexpand', r'\N', r'\fi', r'\F', r'\iftrue', r'\I', '{', r'\B', r'\P', r'\hsize', r'\o', ' ', '#', '*', r'\L', r'\y', r'\par', '\n\n']
+    r'\noexpand\l', r'\noexpand\U', r'\z', r'\C', r'\iftrue a\else b\fi', r'\number1', r'\string\b', r'\csname U\endcsname', r'\e', '{',
+    '}', '$', '&', '#', '^', '_', r'\N', r'\kern', r'\iftrue', r'\fi', r'\halign', r'\U']
+SMALL = [
+    '0', '1', '2', '3', '-1', '5', "'7", '"A', '`b', '`\\c', r'\d', r'\z', r'\C', r'\count5', r'\value{page}', r'\iftrue1\else2\fi',
+    r'\ifnum1<2 3\fi', '12', r'\number3', '1\\e ', '2147483647', '-2147483647', r'\catcode`\a', r'\e4', r'\iftrue2',
+    r'\ifcase1 4\or2\or3\fi']
+LENGTHS = [
+    '0pt', '1pt', '-1pt', '1.5pt', '16383.99999pt', '1in', r'\D', r'\hsize', r'\dimen5', r'\wd3', '2\\D', '.5\\hsize', '3sp', '1 PT',
+    '-\\dp3']
+IFX = [
+    'a', 'b', r'\b', r'\c', r'\U', r'\V', r'\halign', r'\l', 'x', r'\relax', r'\R', r'\z', r'\C', r'\S', r'\skip', '~', r'\A', r'\m',
+    r'\M', r'\noexpand', r'\N', r'\fi', r'\F', r'\iftrue', r'\I', '{', r'\B', r'\P', r'\hsize', r'\o', ' ', '#', '*', r'\L', r'\y',
+    r'\par', '\n\n']
 MODES = ['V', 'H', 'R']
 
 
@@ -245,7 +259,8 @@ def changed(line):
     start, end = draw.choice(places)
     if draw.random() < 0.5:
         return line[:start] + line[end:]
-    return line[:start] + draw.choice([r'\fi ', r'\else ', r'\or ', r'\iftrue ', r'\iffalse ', r'\relax ', '\n', r'\ifcase ']) + line[start:]
+    return line[:start] + draw.choice([r'\fi ', r'\else ', r'\or ', r'\iftrue ', r'\iffalse ', r'\relax ', '\n',
+        r'\ifcase ']) + line[start:]
 
 
 def conditionals():
@@ -265,26 +280,31 @@ def conditionals():
 
 
 CONDITIONALS = r'''
-\fi|\else|\or|\iftrue|\iffalse|\iftrue\else|\iffalse\else|\iffalse\or\fi|\iftrue\or\fi|\iftrue a\else b\or c\else d\fi e|\iftrue a\else b\else c\fi
-\iffalse a\else b\else c\fi|\iffalse a\else b\or c\fi|\ifcase0 a\or b\else c\or d\fi|\ifcase1 a\or b\else c\or d\fi|\ifcase5 a\or b\else c\or d\fi
-\ifcase-1 a\or b\else c\fi|\ifcase2 a\or b\fi c|\ifcase0 a\else b\else c\fi|\ifcase1\else b\or c\fi|\ifcase0\ifcase1 a\or b\or c\fi d\or e\fi f
-\ifnum1<\iftrue2 a\else b\fi c\else d\fi|\ifnum3<\iftrue2 a\else b\fi c\else d\fi e|\ifnum3<\iftrue2 a\or b\fi c\or d\fi e
-\ifnum1<\iffalse a\else2 b\fi c\else d\fi|\ifnum1=1\fi|\ifnum1=1\else a\fi|\ifnum1=1\or a\fi|\ifnum1\fi|\ifnum\fi|\ifnum\else|\ifodd\or\fi
-\if\fi|\if a\fi|\if a\else b\fi|\if\else\or\fi|\ifcat a\or\fi|\ifcase\fi|\ifcase1\or a\or b\fi|\ifcase0\or a\fi|\ifcase0 \or a\fi|\ifdim1pt\fi|\ifdim1pt=1pt\fi
-\ifx\fi\fi\fi|\ifx\fi\else a\fi|\ifx a|\ifx|\if|\if a|\ifcat|\ifcat a|\ifnum|\ifnum1|\ifnum1=|\ifnum1<2|\ifdim|\ifdim1pt|\ifdim1pt<|\ifodd|\ifodd1|\ifcase|\ifcase1
-\ifnum1x2 |\ifnum1 x2 |\ifnum1\relax<2 |\ifnum1\e\e<2 a\fi|\ifnum1  <2 a\fi|\ifnum\C  <2 a\fi|\ifnum\C\s<2 a\fi|\ifnum1\string<2 a\fi|\ifnum1{<}2 \fi
-\ifdim1pt\e<2pt a\fi|\ifdim1<2pt |\ifdim1pt<2 |\ifdim\C<2pt |\ifnum\D<2 |\ifdim\S<2pt |\ifnum\T<2 |\ifnum\b<2 |\ifodd\D a\fi|\ifcase\D a\fi|\ifnum1pt
-\if\iftrue aa\fi b\fi|\if\iftrue ab\else cc\fi d\else e\fi f|\if\iffalse a\else bb\fi c\fi|\ifcat\iftrue1\else a\fi2 y\else n\fi
-\if\ifnum1<2 a\fi a y\else n\fi|\if\if aabc y\else n\fi z\fi|\if\if abcd\else ee\fi y\else n\fi|\iffalse\if\fi\ifx\fi\else a\fi|\iffalse\I\fi\else a\fi b
-\iffalse\halign\U\fi a|\iffalse\F a|\iftrue a\F b|\iffalse a\W b\F c|\iffalse a\f b\fi c|\iftrue\f a|\ifcase2 a\O b\O c\O d\F e|\iffalse\iffalse\else\fi\fi a
-\iffalse\ifcase\or\or\else\fi\else a\fi|\iftrue\iftrue\iftrue a\fi\fi\fi|\iffalse\iftrue\iffalse a\fi\fi\fi b|\iftrue\iffalse a\else b\fi\else c\fi
-\expandafter a\iftrue b\fi|\expandafter a\iffalse b\fi c|\expandafter a\fi|\iftrue\expandafter a\fi b|\iftrue\expandafter\fi\b c|\iffalse\expandafter\fi a
-\iftrue\expandafter\b\else c\fi d|\ifnum1=1\expandafter a\fi|\iftrue\noexpand\fi\fi|\iffalse\noexpand\fi a|\ifx\noexpand\fi\fi a\fi|\iftrue\string\fi\fi
-\ifnum 0\iftrue1\fi=1 a\else b\fi|\ifnum\iffalse1\else2\fi=2 a\fi|\ifnum`\iftrue=1 a\fi|\ifnum`a\fi|\ifnum`\e=1 |\ifnum`\A=126 y\fi|\ifnum`~=126 y\else n\fi
-\ifodd-1 a\else b\fi|\ifodd-2 a\else b\fi|\ifodd0 a\else b\fi|\ifodd2147483647 a\else b\fi|\ifodd2147483648 a\fi|\ifcase2147483647 a\fi b|\ifcase-2147483647 a\else b\fi
-\ifvmode a\else b\fi\ifhmode c\else d\fi|\ifnum1<1\m2 a\fi|\ifnum1<\m2 a\fi|\if\m ab\fi|\ifcat\m ab a\fi|\ifnum\h1.<2 a\fi|\if\par\par y\fi|\if\relax\U|\if ab
-\if{\ifnum0=`}\fi a\fi|\ifnum0=`{\fi a|\if\noexpand~\noexpand~y\else n\fi|\ifcat\noexpand~\noexpand\b y\else n\fi|\if~y z\else n\fi|\ifcat~yz\else n\fi
-\ifcat\noexpand~a y\else n\fi|\ifcat\noexpand~\A y\else n\fi|\if\A\noexpand~y\else n\fi|\if\A~ y\else n\fi|\ifcat\B{y\else n\fi|\if\B{y\else n\fi|\ifcat\s\relax y\else n\fi
+\fi|\else|\or|\iftrue|\iffalse|\iftrue\else|\iffalse\else|\iffalse\or\fi|\iftrue\or\fi|\iftrue a\else b\or c\else d\fi e
+\iftrue a\else b\else c\fi|\iffalse a\else b\else c\fi|\iffalse a\else b\or c\fi|\ifcase0 a\or b\else c\or d\fi
+\ifcase1 a\or b\else c\or d\fi|\ifcase5 a\or b\else c\or d\fi|\ifcase-1 a\or b\else c\fi|\ifcase2 a\or b\fi c|\ifcase0 a\else b\else c\fi
+\ifcase1\else b\or c\fi|\ifcase0\ifcase1 a\or b\or c\fi d\or e\fi f|\ifnum1<\iftrue2 a\else b\fi c\else d\fi
+\ifnum3<\iftrue2 a\else b\fi c\else d\fi e|\ifnum3<\iftrue2 a\or b\fi c\or d\fi e|\ifnum1<\iffalse a\else2 b\fi c\else d\fi|\ifnum1=1\fi
+\ifnum1=1\else a\fi|\ifnum1=1\or a\fi|\ifnum1\fi|\ifnum\fi|\ifnum\else|\ifodd\or\fi|\if\fi|\if a\fi|\if a\else b\fi|\if\else\or\fi
+\ifcat a\or\fi|\ifcase\fi|\ifcase1\or a\or b\fi|\ifcase0\or a\fi|\ifcase0 \or a\fi|\ifdim1pt\fi|\ifdim1pt=1pt\fi|\ifx\fi\fi\fi
+\ifx\fi\else a\fi|\ifx a|\ifx|\if|\if a|\ifcat|\ifcat a|\ifnum|\ifnum1|\ifnum1=|\ifnum1<2|\ifdim|\ifdim1pt|\ifdim1pt<|\ifodd|\ifodd1
+\ifcase|\ifcase1|\ifnum1x2 |\ifnum1 x2 |\ifnum1\relax<2 |\ifnum1\e\e<2 a\fi|\ifnum1  <2 a\fi|\ifnum\C  <2 a\fi|\ifnum\C\s<2 a\fi
+\ifnum1\string<2 a\fi|\ifnum1{<}2 \fi|\ifdim1pt\e<2pt a\fi|\ifdim1<2pt |\ifdim1pt<2 |\ifdim\C<2pt |\ifnum\D<2 |\ifdim\S<2pt |\ifnum\T<2 
+\ifnum\b<2 |\ifodd\D a\fi|\ifcase\D a\fi|\ifnum1pt|\if\iftrue aa\fi b\fi|\if\iftrue ab\else cc\fi d\else e\fi f
+\if\iffalse a\else bb\fi c\fi|\ifcat\iftrue1\else a\fi2 y\else n\fi|\if\ifnum1<2 a\fi a y\else n\fi|\if\if aabc y\else n\fi z\fi
+\if\if abcd\else ee\fi y\else n\fi|\iffalse\if\fi\ifx\fi\else a\fi|\iffalse\I\fi\else a\fi b|\iffalse\halign\U\fi a|\iffalse\F a
+\iftrue a\F b|\iffalse a\W b\F c|\iffalse a\f b\fi c|\iftrue\f a|\ifcase2 a\O b\O c\O d\F e|\iffalse\iffalse\else\fi\fi a
+\iffalse\ifcase\or\or\else\fi\else a\fi|\iftrue\iftrue\iftrue a\fi\fi\fi|\iffalse\iftrue\iffalse a\fi\fi\fi b
+\iftrue\iffalse a\else b\fi\else c\fi|\expandafter a\iftrue b\fi|\expandafter a\iffalse b\fi c|\expandafter a\fi
+\iftrue\expandafter a\fi b|\iftrue\expandafter\fi\b c|\iffalse\expandafter\fi a|\iftrue\expandafter\b\else c\fi d
+\ifnum1=1\expandafter a\fi|\iftrue\noexpand\fi\fi|\iffalse\noexpand\fi a|\ifx\noexpand\fi\fi a\fi|\iftrue\string\fi\fi
+\ifnum 0\iftrue1\fi=1 a\else b\fi|\ifnum\iffalse1\else2\fi=2 a\fi|\ifnum`\iftrue=1 a\fi|\ifnum`a\fi|\ifnum`\e=1 |\ifnum`\A=126 y\fi
+\ifnum`~=126 y\else n\fi|\ifodd-1 a\else b\fi|\ifodd-2 a\else b\fi|\ifodd0 a\else b\fi|\ifodd2147483647 a\else b\fi|\ifodd2147483648 a\fi
+\ifcase2147483647 a\fi b|\ifcase-2147483647 a\else b\fi|\ifvmode a\else b\fi\ifhmode c\else d\fi|\ifnum1<1\m2 a\fi|\ifnum1<\m2 a\fi
+\if\m ab\fi|\ifcat\m ab a\fi|\ifnum\h1.<2 a\fi|\if\par\par y\fi|\if\relax\U|\if ab|\if{\ifnum0=`}\fi a\fi|\ifnum0=`{\fi a
+\if\noexpand~\noexpand~y\else n\fi|\ifcat\noexpand~\noexpand\b y\else n\fi|\if~y z\else n\fi|\ifcat~yz\else n\fi
+\ifcat\noexpand~a y\else n\fi|\ifcat\noexpand~\A y\else n\fi|\if\A\noexpand~y\else n\fi|\if\A~ y\else n\fi|\ifcat\B{y\else n\fi
+\if\B{y\else n\fi|\ifcat\s\relax y\else n\fi
 '''
 
 
@@ -298,17 +318,19 @@ def one_line_conditionals():
             yield case(line, 'N', 'v', meanings={'relax': meaning})
     for code in (126, 12):
         for meaning in (row('relax'), row('fi'), 'char=11.120', 'number=3', 'none', None, row('iftrue'), macro('', ''), macro('', 'x')):
-            for line in ('~', r'\if~x y\else n\fi', r'\if\noexpand~x y\else n\fi', r'\if\noexpand~\string~y\else n\fi', r'\ifcat\noexpand~\relax y\else n\fi',
-                         r'\ifx~x y\else n\fi', r'\iffalse~\fi a', r'\noexpand~', r'\expandafter a~b', r'\number~', r'\csname~\endcsname'):
+            for line in (
+                    '~', r'\if~x y\else n\fi', r'\if\noexpand~x y\else n\fi', r'\if\noexpand~\string~y\else n\fi',
+                    r'\ifcat\noexpand~\relax y\else n\fi', r'\ifx~x y\else n\fi', r'\iffalse~\fi a', r'\noexpand~', r'\expandafter a~b',
+                    r'\number~', r'\csname~\endcsname'):
                 yield case(line.replace('~', chr(code)), 'N', 'v', active={code: meaning})
 
 
 # ---- names, and what is expanded once
 
 NAMES = [
-    'b', 'a', 'zz', 'par', 'halign', 'relax', r'\b', r'\c', r'\d', r'\e', '1', '.', ' ', 'c', 'U', '{', '}', '$', '#', '~', r'\number12 ', r'\string\b',
-    r'\csname b\endcsname', r'\csname zz\endcsname', r'\noexpand\b', r'\iftrue d\else e\fi', r'\thepage', r'\jobname', r'\the\C', r'\the\T', r'\l', r'\relax',
-    r'\expandafter\b\b', r'\expandafter', r'\noexpand', r'\A', '\n', '\n\n', r'\fi']
+    'b', 'a', 'zz', 'par', 'halign', 'relax', r'\b', r'\c', r'\d', r'\e', '1', '.', ' ', 'c', 'U', '{', '}', '$', '#', '~', r'\number12 ',
+    r'\string\b', r'\csname b\endcsname', r'\csname zz\endcsname', r'\noexpand\b', r'\iftrue d\else e\fi', r'\thepage', r'\jobname',
+    r'\the\C', r'\the\T', r'\l', r'\relax', r'\expandafter\b\b', r'\expandafter', r'\noexpand', r'\A', '\n', '\n\n', r'\fi']
 
 
 def csnames():
@@ -318,8 +340,10 @@ def csnames():
         line = joined(r'\csname', name, end, draw.choice(['', 'a', r'\ifx\zz\relax y\else n\fi', r'\zz']))
         calls = draw.choice([['N'], ['o', 'N', 'c'], ['n', 'N'], ['o', 'n', 'c', 'N'], ['q'], ['i'], ['w']])
         yield case(line, *calls)
-    for inner, after in ((r'\csname zz\endcsname', r'\zz'), (r'\csname halign\endcsname', r'\halign'), (r'\csname\endcsname', r'\csname\endcsname')):
-        for calls in (['n', 'n', 'N'], ['o', 'n', 'c', 'n'], ['o', 'n', 'n', 'c', 'N'], ['o', 'o', 'n', 'c', 'n', 'c', 'n'], ['o', 'n', 'o', 'n', 'c', 'n', 'c', 'n']):
+    for inner, after in ((r'\csname zz\endcsname', r'\zz'), (r'\csname halign\endcsname', r'\halign'),
+        (r'\csname\endcsname', r'\csname\endcsname')):
+        for calls in (['n', 'n', 'N'], ['o', 'n', 'c', 'n'], ['o', 'n', 'n', 'c', 'N'], ['o', 'o', 'n', 'c', 'n', 'c', 'n'],
+            ['o', 'n', 'o', 'n', 'c', 'n', 'c', 'n']):
             yield case(inner + after + ' ' + after, *calls)
             yield case(inner + after + r'\ifx' + after.replace('\\csname\\endcsname', r'\relax') + r'\relax y\else n\fi ', *calls)
     yield case(r'\endcsname', 'N')
@@ -331,22 +355,28 @@ def csnames():
 
 
 ONCE = [
-    r'\expandafter', r'\expandafter', r'\expandafter', r'\expandafter', r'\noexpand', r'\string', r'\b', r'\c', r'\y', r'\e', r'\m', r'\n', r'\h', 'a', '1', '{', '}', '.', ' ', '~', r'\relax',
-    r'\number', r'\the', r'\C', r'\T', r'\csname', r'\endcsname', r'\iftrue', r'\iffalse', r'\else', r'\fi', r'\U', r'\o', r'\X', r'\N', r'\z', '\n\n', r'\d', r'\A']
+    r'\expandafter', r'\expandafter', r'\expandafter', r'\expandafter', r'\noexpand', r'\string', r'\b', r'\c', r'\y', r'\e', r'\m',
+    r'\n', r'\h', 'a', '1', '{', '}', '.', ' ', '~', r'\relax', r'\number', r'\the', r'\C', r'\T', r'\csname', r'\endcsname', r'\iftrue',
+    r'\iffalse', r'\else', r'\fi', r'\U', r'\o', r'\X', r'\N', r'\z', '\n\n', r'\d', r'\A']
 
 
 def chains():
     for _ in range(420):
         line = joined(*some(ONCE[:4] + ONCE[:24] if draw.random() < 0.7 else ONCE, 2, 9))
-        yield case(line, *draw.choice([['N', 'v'], ['n', 'v', 'N'], ['n', 'p', 'N'], ['n', 'f', 'f']]), active={126: draw.choice([macro('', 'y'), row('expandafter'), None])})
+        yield case(line, *draw.choice([['N', 'v'], ['n', 'v', 'N'], ['n', 'p', 'N'], ['n', 'f', 'f']]),
+            active={126: draw.choice([macro('', 'y'), row('expandafter'), None])})
     for line in (
-            r'\expandafter', r'\expandafter a', r'\expandafter a\U', r'\expandafter\U a', r'\noexpand', r'\noexpand\U', r'\noexpand\b\b', r'\expandafter a\noexpand\b\b', r'\expandafter\m\b',
-            r'\expandafter\expandafter\expandafter\b\c', r'\expandafter\expandafter\expandafter\string\c', r'\expandafter\string\noexpand\b', r'\expandafter\number\noexpand\b', r'\expandafter\number\d x',
-            r'\expandafter\m\expandafter{\c}', r'\expandafter\h\y.', r'\expandafter\n\y', r'\number1\noexpand\b', r'\number1\noexpand\U', r'\expandafter a\string', r'\expandafter a\the\T',
-            r'\expandafter a\number1\b', r'\expandafter a\csname b\endcsname', r'\expandafter\noexpand\b', r'\expandafter\noexpand\c\b', r'\noexpand\expandafter\b', r'\noexpand\noexpand\b',
-            r'\expandafter a\expandafter b\expandafter c\b', r'\expandafter a\jobname', r'\expandafter a\thepage', r'\expandafter a\roman{page}', r'\expandafter\par\par', r'\expandafter a\endcsname',
-            r'\noexpand~~', r'\string~', r'\string\b', r'\string', r'\string\ ', r'\string{', r'\string ', r'\string #', '\\string\n\n', r'\string\par', r'\string^^41', r'\string\^^41', r'\string\^^M', r'\string%',
-            r'\string\U', r'\string\number', r'\string\\', r'\string\csname', r'\string&', r'\string\string'):
+            r'\expandafter', r'\expandafter a', r'\expandafter a\U', r'\expandafter\U a', r'\noexpand', r'\noexpand\U', r'\noexpand\b\b',
+            r'\expandafter a\noexpand\b\b', r'\expandafter\m\b', r'\expandafter\expandafter\expandafter\b\c',
+            r'\expandafter\expandafter\expandafter\string\c', r'\expandafter\string\noexpand\b', r'\expandafter\number\noexpand\b',
+            r'\expandafter\number\d x', r'\expandafter\m\expandafter{\c}', r'\expandafter\h\y.', r'\expandafter\n\y',
+            r'\number1\noexpand\b', r'\number1\noexpand\U', r'\expandafter a\string', r'\expandafter a\the\T',
+            r'\expandafter a\number1\b', r'\expandafter a\csname b\endcsname', r'\expandafter\noexpand\b', r'\expandafter\noexpand\c\b',
+            r'\noexpand\expandafter\b', r'\noexpand\noexpand\b', r'\expandafter a\expandafter b\expandafter c\b',
+            r'\expandafter a\jobname', r'\expandafter a\thepage', r'\expandafter a\roman{page}', r'\expandafter\par\par',
+            r'\expandafter a\endcsname', r'\noexpand~~', r'\string~', r'\string\b', r'\string', r'\string\ ', r'\string{', r'\string ',
+            r'\string #', '\\string\n\n', r'\string\par', r'\string^^41', r'\string\^^41', r'\string\^^M', r'\string%', r'\string\U',
+            r'\string\number', r'\string\\', r'\string\csname', r'\string&', r'\string\string'):
         yield case(line, 'N')
         yield case(line + '%', 'n', 'p', 'N')
 
@@ -354,20 +384,28 @@ def chains():
 # ---- quantities, and what is printed
 
 QUANTITIES = [
-    r'\count5', r'\C', r'\dimen5', r'\D', r'\skip5', r'\S', r'\toks5', r'\T', r'\catcode`\a', r'\catcode 32', r'\lccode 65', r'\uccode`\z', r'\sfcode`\.', r'\sfcode 65', r'\wd3', r'\ht3', r'\dp3', r'\wd4',
-    r'\value{page}', r'\value{tocdepth}', r'\value{zz}', r'\value x', r'\value{\b}', r'\hsize', r'\P', r'\parindent', r'\tolerance', r'\interlinepenalty', r'\baselineskip', r'\G', r'\parfillskip', r'\parskip',
-    r'\z', r'\count256', r'\count-1', r'\dimen 300', r'\catcode 256', r'\sfcode-1', r'\lccode 255', r'\uccode 256', r'\dp 256', r'\count', r'\count x', r'\count\C', r'\count\number5', r'\count\z', r'\skip\skip', r'\count5',
-    r'\catcode\catcode32', r'\count\value{page}', r'\value', r'\value}', r'\value{', r'\value{\relax}', r'\lineskiplimit', r'\maxdepth', r'\linepenalty', r'\count 0', r'\dimen 0', r'\skip 0', r'\toks 0', r'\toks 256', r'\toks x', r'\count255',
-    r'\l', r'\s', r'\relax', r'\b', r'\U', 'x', '5', r'\char', r'\A', r'\fi', r'\kern', r'\noexpand\b', r'\noexpand\C', r'\halign', r'\par', r'\R']
-CONTEXTS = [r'\the', r'\number', r'\romannumeral', r'\number-', r'\the\count', r'\ifnum1<', r'\ifdim1pt>', r'\number0', r'\expandafter a\the', r'\csname a\the', r'\ifodd']
+    r'\count5', r'\C', r'\dimen5', r'\D', r'\skip5', r'\S', r'\toks5', r'\T', r'\catcode`\a', r'\catcode 32', r'\lccode 65',
+    r'\uccode`\z', r'\sfcode`\.', r'\sfcode 65', r'\wd3', r'\ht3', r'\dp3', r'\wd4', r'\value{page}', r'\value{tocdepth}', r'\value{zz}',
+    r'\value x', r'\value{\b}', r'\hsize', r'\P', r'\parindent', r'\tolerance', r'\interlinepenalty', r'\baselineskip', r'\G',
+    r'\parfillskip', r'\parskip', r'\z', r'\count256', r'\count-1', r'\dimen 300', r'\catcode 256', r'\sfcode-1', r'\lccode 255',
+    r'\uccode 256', r'\dp 256', r'\count', r'\count x', r'\count\C', r'\count\number5', r'\count\z', r'\skip\skip', r'\count5',
+    r'\catcode\catcode32', r'\count\value{page}', r'\value', r'\value}', r'\value{', r'\value{\relax}', r'\lineskiplimit', r'\maxdepth',
+    r'\linepenalty', r'\count 0', r'\dimen 0', r'\skip 0', r'\toks 0', r'\toks 256', r'\toks x', r'\count255', r'\l', r'\s', r'\relax',
+    r'\b', r'\U', 'x', '5', r'\char', r'\A', r'\fi', r'\kern', r'\noexpand\b', r'\noexpand\C', r'\halign', r'\par', r'\R']
+CONTEXTS = [
+    r'\the', r'\number', r'\romannumeral', r'\number-', r'\the\count', r'\ifnum1<', r'\ifdim1pt>', r'\number0', r'\expandafter a\the',
+    r'\csname a\the', r'\ifodd']
 
 
 def some_number():
-    return draw.choice([0, 1, -1, 3, 4, 9, 14, 40, 99, 256, 1999, 3999, 100000, 100001, WORD, -WORD, draw.randrange(-WORD, WORD + 1), draw.randrange(5000), draw.randrange(5000)])
+    return draw.choice([
+        0, 1, -1, 3, 4, 9, 14, 40, 99, 256, 1999, 3999, 100000, 100001, WORD, -WORD, draw.randrange(-WORD, WORD + 1),
+        draw.randrange(5000), draw.randrange(5000)])
 
 
 def some_size():
-    return draw.choice([0, 1, -1, 65536, -65536, 32768, 6554, 98304, LENGTH, -LENGTH, draw.randint(-LENGTH, LENGTH), draw.randint(-2 ** 20, 2 ** 20)])
+    return draw.choice([
+        0, 1, -1, 65536, -65536, 32768, 6554, 98304, LENGTH, -LENGTH, draw.randint(-LENGTH, LENGTH), draw.randint(-2 ** 20, 2 ** 20)])
 
 
 def some_glue():
@@ -377,7 +415,8 @@ def some_glue():
 
 def some_registers():
     return {
-        'count.5': str(some_number()), 'dimen.5': str(some_size()), 'skip.5': some_glue(), 'box.3': f'{some_size()},{some_size()},{some_size()}',
+        'count.5': str(some_number()), 'dimen.5': str(some_size()), 'skip.5': some_glue(),
+        'box.3': f'{some_size()},{some_size()},{some_size()}',
         'toks.5': tokens(draw.choice(['', 'a', r'\b', r'{\b}', '12', 'a##b', r'\fi', '~', r'\number1', 'p}', r'\U']))}
 
 
@@ -385,18 +424,26 @@ def quantities():
     for quantity in QUANTITIES:
         for calls in (['q', 'N'], ['N'], ['i', 'n'], ['d', 'n'], ['g', 'n']):
             line = joined(quantity, draw.choice(['', ' ', 'x', r'\relax']))
-            yield case(joined(r'\the', line) if calls == ['N'] else line, *calls, registers=some_registers() if draw.random() < 0.5 else None)
+            yield case(joined(r'\the', line) if calls == ['N'] else line, *calls,
+                registers=some_registers() if draw.random() < 0.5 else None)
     for _ in range(330):
         line = joined(draw.choice(CONTEXTS), draw.choice(QUANTITIES[:34]), draw.choice(['', ' ', 'x', '2', r'\b', r'\fi', r'\endcsname']))
         yield case(line, 'N', 'v', registers=some_registers())
     for cell, name, value in (
-            ('par.hsize', 'hsize', -1), ('par.tolerance', 'tolerance', -WORD), ('par.year', 'year', 1999), ('par.month', 'month', 12), ('par.day', 'day', 31), ('par.time', 'time', 1439), ('par.parskip', 'parskip', '1,2,3,4,0'),
-            ('cat.97', 'catcode97', 13), ('lc.200', 'lccode200', 255), ('uc.0', 'uccode0', 1), ('sf.255', 'sfcode255', 32767), ('par.maxdepth', 'maxdepth', LENGTH), ('par.leftskip', 'leftskip', '0,0,1,0,2')):
+            ('par.hsize', 'hsize', -1), ('par.tolerance', 'tolerance', -WORD), ('par.year', 'year', 1999), ('par.month', 'month', 12),
+            ('par.day', 'day', 31), ('par.time', 'time', 1439), ('par.parskip', 'parskip', '1,2,3,4,0'), ('cat.97', 'catcode97', 13),
+            ('lc.200', 'lccode200', 255), ('uc.0', 'uccode0', 1), ('sf.255', 'sfcode255', 32767), ('par.maxdepth', 'maxdepth', LENGTH),
+            ('par.leftskip', 'leftskip', '0,0,1,0,2')):
         yield case(f'\\the\\{name} ', 'N', registers={cell: value})
         yield case(f'\\{name} ', 'q', registers={cell: value})
+    for name in sorted(text.PARAMETERS - set(text.DATES)):
+        yield case(f'\\the\\{name}.', 'N')
+    for code in [*range(0, 256, 9), *map(ord, '.?!:;,)\']\\{}$&#^_~%@AZaz\r\f')]:
+        yield case(''.join(f'\\the\\{kind}{code} :' for kind in ('catcode', 'lccode', 'uccode', 'sfcode')), 'N')
     for _ in range(60):
         registers = some_registers()
-        yield case(draw.choice([r'\the\C:\number\C:\romannumeral\C', r'\the\D:\the\dp3', r'\the\S', r'\the\skip5', r'\the\T:\the\toks5']), 'N', registers=registers)
+        yield case(draw.choice([r'\the\C:\number\C:\romannumeral\C', r'\the\D:\the\dp3', r'\the\S', r'\the\skip5', r'\the\T:\the\toks5']),
+            'N', registers=registers)
 
 
 COUNTER_VALUES = [0, 1, -1, 2, 4, 9, 26, 27, 14, 40, 90, 400, 900, 1994, 3888, 4999, 99999, 100000, 100001, WORD, -WORD, 25, -26, 3, 5]
@@ -409,8 +456,11 @@ def printings():
                 yield case(f'\\{form}{{q}}.', 'N', registers={'counter.71': value})
             if value < 1000 or draw.random() < 0.3:
                 yield case(r'\thepage.', 'N', registers={'counter.' + hexed('page'): value, 'pageform': form}) 
-        for name in (r'{page}', '{zz}', 'p', r'{\b}', '', '{}', '}', r'{\relax}', r'{\csname b\endcsname}', '{tocdepth}', '{ page}', r'{\jobname}', r'\b', r'\par', '{page', r'{\roman{page}}', '{~}', '{{page}}', '\n\n', r'{\m}', r'{\h}'):
-            yield case(f'\\{form}' + (name if name.startswith(('{', '\\', '}', '\n')) else ' ' + name), 'N', registers={'counter.78': 4, 'counter.69': 2, 'counter.' + hexed('main'): 7})
+        for name in (
+                r'{page}', '{zz}', 'p', r'{\b}', '', '{}', '}', r'{\relax}', r'{\csname b\endcsname}', '{tocdepth}', '{ page}',
+                r'{\jobname}', r'\b', r'\par', '{page', r'{\roman{page}}', '{~}', '{{page}}', '\n\n', r'{\m}', r'{\h}'):
+            yield case(f'\\{form}' + (name if name.startswith(('{', '\\', '}', '\n')) else ' ' + name), 'N',
+                registers={'counter.78': 4, 'counter.69': 2, 'counter.' + hexed('main'): 7})
     for value in COUNTER_VALUES:
         if value < 5000 or value > 100000:
             yield case(f'\\romannumeral{value} x\\number{value} ', 'N')
@@ -420,14 +470,21 @@ def printings():
 
 # ---- files
 
-FILES = {'a.tex': 'x\ny', 'b.tex': r'p\input a q', 'c.tex': 'u\\endinput v\nw', 'd/e.tex': 'de', 'f.g/h.tex': 'fgh', 'k.txt': 'kt', 'm': 'never', '.tex': 'dot', 'x.tex': '', 'j.tex': '%', 'main.tex': 'main'}
+FILES = {'a.tex': 'x\ny', 'b.tex': r'p\input a q', 'c.tex': 'u\\endinput v\nw', 'd/e.tex': 'de', 'f.g/h.tex': 'fgh', 'k.txt': 'kt',
+    'm': 'never', '.tex': 'dot', 'x.tex': '', 'j.tex': '%', 'main.tex': 'main'}
 INPUTS = [
-    r'\input a ', r'\input{a}', r'\input{a.tex}', r'\input a.tex ', r'\input{d/e}', r'\input d/e ', r'\input{f.g/h}', r'\input{f.g/h.tex}', r'\input{k.txt}', r'\input k ', r'\input{m}', r'\input{}', r'\input{\b}', r'\input\b ',
-    r'\input a\relax', r'\input\relax', r'\input a{b} ', r'\input {a}', r'\input  a  z', '\\input\na', r'\input{ a}', r'\input{a }', r'\input{a\relax}', r'\input{a', r'\input', r'\input }', r'\input a', r'\input\jobname ',
-    r'\input{\jobname}', r'\input{\csname b\endcsname}', r'\input a\noexpand\b ', r'\input a\U ', r'\input{a\U}', r'\input a~ ', r'\input a\iftrue.tex\else b\fi ', r'\input{zz}', r'\input zz ', r'\input{x}', r'\input{j}', r'\input x z', r'\input{b}',
-    r'\input{c}', r'\input{{a}}', r'\input a$ ', r'\expandafter z\input{a}', r'\expandafter\b\input{a}', r'\expandafter z\input a ', r'\m\input{a}', r'\csname a\input{j}\endcsname', r'\iffalse\input{a}\fi', r'\number1\input{a}', r'\number\input{n}.',
-    r'\expandafter\endinput\input{a}z', r'\endinput', 'a\\endinput b\nc', '\\endinput%\nc', r'\iftrue\endinput\fi', r'\expandafter a\endinput b', '\\input{c}r\nt', r'\input\s a ', '\\input\\e\\e a ', r'\input"a" ', r'\input a\string.tex ',
-    r'\input a\number1 ', r'\input\csname b\endcsname ', r'\input \B a\E ', r'\string\input a ', r'\noexpand\input a ', r'\input{a}\input{a}', r'\input a \input a ', '\\input{a}%\nz', '\\input{a}\n\nz', r'\b\input{a}\b', '\\input x\ny', r'\ifx\input a']
+    r'\input a ', r'\input{a}', r'\input{a.tex}', r'\input a.tex ', r'\input{d/e}', r'\input d/e ', r'\input{f.g/h}',
+    r'\input{f.g/h.tex}', r'\input{k.txt}', r'\input k ', r'\input{m}', r'\input{}', r'\input{\b}', r'\input\b ', r'\input a\relax',
+    r'\input\relax', r'\input a{b} ', r'\input {a}', r'\input  a  z', '\\input\na', r'\input{ a}', r'\input{a }', r'\input{a\relax}',
+    r'\input{a', r'\input', r'\input }', r'\input a', r'\input\jobname ', r'\input{\jobname}', r'\input{\csname b\endcsname}',
+    r'\input a\noexpand\b ', r'\input a\U ', r'\input{a\U}', r'\input a~ ', r'\input a\iftrue.tex\else b\fi ', r'\input{zz}',
+    r'\input zz ', r'\input{x}', r'\input{j}', r'\input x z', r'\input{b}', r'\input{c}', r'\input{{a}}', r'\input a$ ',
+    r'\expandafter z\input{a}', r'\expandafter\b\input{a}', r'\expandafter z\input a ', r'\m\input{a}', r'\csname a\input{j}\endcsname',
+    r'\iffalse\input{a}\fi', r'\number1\input{a}', r'\number\input{n}.', r'\expandafter\endinput\input{a}z', r'\endinput',
+    'a\\endinput b\nc', '\\endinput%\nc', r'\iftrue\endinput\fi', r'\expandafter a\endinput b', '\\input{c}r\nt', r'\input\s a ',
+    '\\input\\e\\e a ', r'\input"a" ', r'\input a\string.tex ', r'\input a\number1 ', r'\input\csname b\endcsname ', r'\input \B a\E ',
+    r'\string\input a ', r'\noexpand\input a ', r'\input{a}\input{a}', r'\input a \input a ', '\\input{a}%\nz', '\\input{a}\n\nz',
+    r'\b\input{a}\b', '\\input x\ny', r'\ifx\input a']
 
 
 def inputs():
@@ -435,8 +492,11 @@ def inputs():
         for calls in (['N', 'v'], ['n', 'f', 'p', 'N']):
             used = {name: data for name, data in FILES.items() if draw.random() < 0.2 or name[0] in line or name in ('a.tex',)}
             yield case(line, *calls, files={**used, 'n.tex': '12%'} if '{n}' in line else used)
-    for inner in ('', '%', 'a', 'a%', '\n', '\n\na', r'\iftrue', r'\iffalse', r'\fi', r'\else', r'\or', r'\number1', r'\number', r'\string', r'\noexpand', r'\expandafter', r'\expandafter a', r'\csname b', r'\endcsname', r'\the', r'\ifnum1<', r'\if a',
-                  r'\input a', r'\input{a}', r'\endinput', 'a\\endinput\nb', r'\endinput a\input{a}%', r'\e', r'\b', r'\number1%', r'\romannumeral', r'\input', r'\arabic', r'\arabic{page', r'\thepage', r'a^^?', r'\ifx a', r'\the\count', r'\o%', r'\o %', '\\iffalse\n\n'):
+    for inner in (
+            '', '%', 'a', 'a%', '\n', '\n\na', r'\iftrue', r'\iffalse', r'\fi', r'\else', r'\or', r'\number1', r'\number', r'\string',
+            r'\noexpand', r'\expandafter', r'\expandafter a', r'\csname b', r'\endcsname', r'\the', r'\ifnum1<', r'\if a', r'\input a',
+            r'\input{a}', r'\endinput', 'a\\endinput\nb', r'\endinput a\input{a}%', r'\e', r'\b', r'\number1%', r'\romannumeral',
+            r'\input', r'\arabic', r'\arabic{page', r'\thepage', r'a^^?', r'\ifx a', r'\the\count', r'\o%', r'\o %', '\\iffalse\n\n'):
         files = {'q.tex': inner, **({'a.tex': 'x%'} if 'a' in inner else {})}
         for before, after in (('', 'z'), ('', '5 b\\endcsname\\fi c'), (r'\iffalse a\else', r'\fi'), (r'\iftrue', r'\else b\fi')):
             yield case(joined(before, r'\input{q}', after), *draw.choice([['N', 'v'], ['n', 'v', 'N'], ['n', 'p', 'f', 'N']]), files=files)
@@ -453,9 +513,12 @@ def nested_files():
     files = {}
     for at, name in enumerate(names):
         further = [rf'\input{{{other}}}' for other in names[at + 1:]] + [rf'\input {other} ' for other in names[at + 1:]]
-        parts = some(['x', 'y', '\n', '%\n', r'\b', r'\endinput', r'\m', '{', '}', r'\iftrue', r'\fi', r'\else', r'\iffalse', '', ' ', r'\number1', *further, *further, *further], 1, 6)
+        parts = some([
+            'x', 'y', '\n', '%\n', r'\b', r'\endinput', r'\m', '{', '}', r'\iftrue', r'\fi', r'\else', r'\iffalse', '', ' ', r'\number1',
+            *further, *further, *further], 1, 6)
         files[name + '.tex'] = joined(*parts)
-    return case(joined(r'\input{a}', draw.choice(['z', '}', r'\fi', '\n'])), *draw.choice([['N', 'v'], ['n', 'p', 'N', 'v'], ['n', 'n', 'f', 'p', 'N']]), files=files)
+    return case(joined(r'\input{a}', draw.choice(['z', '}', r'\fi', '\n'])),
+        *draw.choice([['N', 'v'], ['n', 'p', 'N', 'v'], ['n', 'n', 'f', 'p', 'N']]), files=files)
 
 
 def chains_of_files():
@@ -474,13 +537,21 @@ def chains_of_files():
 # ---- readings
 
 SIGNS = ['', '', '', '-', '+', '- -', '--', ' + ', '  ', r'\e -', '-\n']
-INTEGERS = ['0', '1', '12', '007', '2147483647', '2147483648', '99999999999', "'17", "'8", "'20000000000", '"7F', '"7f', '"FFFFFFFF', '"G', '`a', '`\\a', '`\\b', '`\\bb', '`{', '`}', '`~', '`\\~', '`^^41', '`\\^^M', '`%', '` ', '`',
-            r'\C', r'\count5', r'\z', r'\d', r'\d\d', r'1\d', r'\D', r'\S', r'\T', r'\value{page}', r'\b', r'\relax', 'x', '', r'\tolerance', r'\number5', r'\romannumeral3', r'\iftrue4\fi', r'\hsize', '1 2', "' 7", '1.5', '-', r'\noexpand\d', r'\U', r'\l',
-            r'\s1', r'1\s2', '1\n2', '1\n\n2', r'1\par', r'`\par', r'1\noexpand\b', r'\string1', r'\lccode65', r'\catcode300']
-DECIMALS = ['0', '1', '1.5', '.5', '.', '1.', '0.00001', '16383.99999', '16384', '3.14159265358979323846', '2147483647', '2147483648', '1,5', r'\d', r'\d.\d', r'1\e.5', r'1.\C', '1073741823', '1073741824', '576.1', '5.', "'7", '"F', '`a']
-LENGTH_UNITS = [*UNITS[:9], *UNITS[:9], *UNITS[:9], 'PT', 'Pt', 'pT', ' pt', '  cm', 'p', 'p t', 'true pt', 'mu', 'fil', 'x', '', r'\D', r'\hsize', r'\dimen5', r'\S', r'\C', r'\b', r'p\e t', 'em', 'ex', r'\wd3', r'\relax', r'\noexpand\b', r'p\b', r'\iftrue pt\fi', 'pp', 'i', 'c', 'b', 'ptt',
-                r'\U']
-PART_UNITS = LENGTH_UNITS[:9] + ['fil', 'fill', 'filll', 'fillll', 'Fil', 'fi', 'FILLL', 'fil l', r'fi\e l', 'pt', 'x', '', r'\D', r'\C', r'\S', 'em']
+INTEGERS = [
+    '0', '1', '12', '007', '2147483647', '2147483648', '99999999999', "'17", "'8", "'20000000000", '"7F', '"7f', '"FFFFFFFF', '"G', '`a',
+    '`\\a', '`\\b', '`\\bb', '`{', '`}', '`~', '`\\~', '`^^41', '`\\^^M', '`%', '` ', '`', r'\C', r'\count5', r'\z', r'\d', r'\d\d',
+    r'1\d', r'\D', r'\S', r'\T', r'\value{page}', r'\b', r'\relax', 'x', '', r'\tolerance', r'\number5', r'\romannumeral3',
+    r'\iftrue4\fi', r'\hsize', '1 2', "' 7", '1.5', '-', r'\noexpand\d', r'\U', r'\l', r'\s1', r'1\s2', '1\n2', '1\n\n2', r'1\par',
+    r'`\par', r'1\noexpand\b', r'\string1', r'\lccode65', r'\catcode300']
+DECIMALS = [
+    '0', '1', '1.5', '.5', '.', '1.', '0.00001', '16383.99999', '16384', '3.14159265358979323846', '2147483647', '2147483648', '1,5',
+    r'\d', r'\d.\d', r'1\e.5', r'1.\C', '1073741823', '1073741824', '576.1', '5.', "'7", '"F', '`a']
+LENGTH_UNITS = [
+    *UNITS[:9], *UNITS[:9], *UNITS[:9], 'PT', 'Pt', 'pT', ' pt', '  cm', 'p', 'p t', 'true pt', 'mu', 'fil', 'x', '', r'\D', r'\hsize',
+    r'\dimen5', r'\S', r'\C', r'\b', r'p\e t', 'em', 'ex', r'\wd3', r'\relax', r'\noexpand\b', r'p\b', r'\iftrue pt\fi', 'pp', 'i', 'c',
+    'b', 'ptt', r'\U']
+PART_UNITS = LENGTH_UNITS[:9] + [
+    'fil', 'fill', 'filll', 'fillll', 'Fil', 'fi', 'FILLL', 'fil l', r'fi\e l', 'pt', 'x', '', r'\D', r'\C', r'\S', 'em']
 AFTER = ['', ' ', '  ', 'x', r'\relax', ' x', '\n\n', r'\b', r'\fi', ' pt', r'\U', '.']
 
 
@@ -494,7 +565,8 @@ def some_part(word):
 
 
 def some_glue_text():
-    line = draw.choice([some_length(), some_length(), joined(draw.choice(SIGNS), draw.choice([r'\S', r'\skip5', r'\D', r'\hsize', r'\baselineskip', r'\G', r'\C', r'\T', r'\skip300']))])
+    line = draw.choice([some_length(), some_length(), joined(draw.choice(SIGNS),
+        draw.choice([r'\S', r'\skip5', r'\D', r'\hsize', r'\baselineskip', r'\G', r'\C', r'\T', r'\skip300']))])
     if draw.random() < 0.6:
         line = joined(line, some_part('plus'))
     if draw.random() < 0.5:
@@ -507,14 +579,19 @@ def scans():
         line = joined(draw.choice(SIGNS), draw.choice(INTEGERS), draw.choice(AFTER))
         yield case(line, 'i', *draw.choice([['n'], ['N'], ['p'], ['i']]), registers=some_registers() if draw.random() < 0.4 else None)
     for _ in range(330):
-        yield case(joined(some_length(), draw.choice(AFTER)), 'd', *draw.choice([['n'], ['N'], ['p'], ['d']]), registers=some_registers() if draw.random() < 0.4 else None)
+        yield case(joined(some_length(), draw.choice(AFTER)), 'd', *draw.choice([['n'], ['N'], ['p'], ['d']]),
+            registers=some_registers() if draw.random() < 0.4 else None)
     for _ in range(420):
-        yield case(joined(some_glue_text(), draw.choice(AFTER)), 'g', *draw.choice([['n'], ['N'], ['p']]), registers=some_registers() if draw.random() < 0.4 else None)
-    for line in (r'1pt plus\count5 x', r'1pt plus 2\count5 x', r'1pt minus\value{page}x', r'1pt plus\skip5 x', r'\skip5 plus\dimen5 minus\count5 x', r'1pt plus\count300 x'):
+        yield case(joined(some_glue_text(), draw.choice(AFTER)), 'g', *draw.choice([['n'], ['N'], ['p']]),
+            registers=some_registers() if draw.random() < 0.4 else None)
+    for line in (r'1pt plus\count5 x', r'1pt plus 2\count5 x', r'1pt minus\value{page}x', r'1pt plus\skip5 x',
+        r'\skip5 plus\dimen5 minus\count5 x', r'1pt plus\count300 x'):
         yield case(line, 'g', 'N')
     for word in ('to', 'by', 'spread', 'width'):
-        for line in (word, ' ' + word, word.upper(), word[:-1], word[:-1] + 'x', '', word + word, r'\e ' + word, word[0] + r'\e ' + word[1:], word[0] + r'\b ', word[0] + '\n' + word[1:], word[0] + '\\', '{' + word, word[0] + r'\U', word[0] + r'\fi',
-                     '\n\n' + word, '  ' + word[0], word[0] + '~', r'\string ' + word, r'\l'):
+        for line in (
+                word, ' ' + word, word.upper(), word[:-1], word[:-1] + 'x', '', word + word, r'\e ' + word, word[0] + r'\e ' + word[1:],
+                word[0] + r'\b ', word[0] + '\n' + word[1:], word[0] + '\\', '{' + word, word[0] + r'\U', word[0] + r'\fi', '\n\n' + word,
+                '  ' + word[0], word[0] + '~', r'\string ' + word, r'\l'):
             if draw.random() < 0.7:
                 yield case(line, 'k' + hexed(word), *draw.choice([['n'], ['N'], ['k' + hexed(word), 'N']]))
     yield from mixed_scans()
@@ -524,7 +601,9 @@ def scans():
 def mixed_scans():
     for _ in range(120):
         calls = some(['i', 'd', 'g', 'k746f', 'n', 'p', 'q'], 2, 4)
-        texts = {'i': ['1', '12 ', r'\C', r'\d ', "'7 "], 'd': ['1pt', '2.5cm ', r'\D', '3sp'], 'g': ['1pt plus2fil', r'\S', '1pt minus 3pt ', '1pt'], 'k': ['to', ' to', 'TO', 'x'], 'n': [r'\b', 'x', r'\relax'], 'p': ['x', r'\b', ' '], 'q': [r'\C', r'\skip5', 'x']}
+        texts = {'i': ['1', '12 ', r'\C', r'\d ', "'7 "], 'd': ['1pt', '2.5cm ', r'\D', '3sp'],
+            'g': ['1pt plus2fil', r'\S', '1pt minus 3pt ', '1pt'], 'k': ['to', ' to', 'TO', 'x'], 'n': [r'\b', 'x', r'\relax'],
+            'p': ['x', r'\b', ' '], 'q': [r'\C', r'\skip5', 'x']}
         yield case(joined(*(draw.choice(texts[call[0]]) for call in calls)), *calls)
 
 
@@ -544,7 +623,9 @@ def fonts():
         yield with_font('1em', ['d'], 'f/cmr10', data, {}, words=['prefix=' + hexed('f/')])
         yield with_font('1em', ['d'], 'f/cmr10', data, {}, words=['prefix=' + hexed('g/')])
         yield with_font('ab\n\nc\\ifdim1em<20pt y\\else n\\fi', ['N'], 'cmr10', data, {})
-    for line, call in (('1em', 'd'), ('1e', 'd'), ('em', 'd'), ('1pt plus1em', 'g'), ('1pt plus1e', 'g'), (r'\ifdim1em=1em\fi', 'N'), ('x 1ex', 'i'), ('1pt minus1fil plus1em', 'g'), ('1ex plus1em', 'g'), ('1638em', 'd'), ('1EX', 'd'), ('1e\\e x', 'd'), ('1\nem', 'd')):
+    for line, call in (
+            ('1em', 'd'), ('1e', 'd'), ('em', 'd'), ('1pt plus1em', 'g'), ('1pt plus1e', 'g'), (r'\ifdim1em=1em\fi', 'N'), ('x 1ex', 'i'),
+            ('1pt minus1fil plus1em', 'g'), ('1ex plus1em', 'g'), ('1638em', 'd'), ('1EX', 'd'), ('1e\\e x', 'd'), ('1\nem', 'd')):
         yield case(line, call, 'N')
     yield with_font('1638.3em', ['d'], 'cmr10', FONT, {})
     yield with_font('1638.5em', ['d'], 'cmr10', FONT, {})
@@ -557,8 +638,13 @@ def with_font(line, calls, name, data, registers, words=()):
 
 # ---- texts
 
-CHARACTERS = list('abzAZ019 .,{}$&#^_~%\\\n\r\t\0\x7f\x0c\x80\xff@!') + ['^^', '^^4', '^^41', '^^5c', '^^M', '^^@', '^^?', '^^a', '^^5e^^', '^^^', '\n\n', '  ', r'\par', r'\ ', '%\n', '\\\n', r'\^^41', r'\a^^62', '^^zz', '^^\x80', r'\^^M', '\r\n', '^^0a', '^^0d', ' \n', '\\^^5ca']
-CATEGORIES = [(97, 0), (97, 7), (94, 12), (13, 12), (13, 13), (13, 5), (32, 12), (32, 9), (32, 13), (64, 11), (64, 13), (37, 12), (65, 15), (46, 10), (123, 12), (125, 1), (92, 12), (126, 10), (127, 12), (0, 13), (9, 5), (65, 14), (49, 11), (13, 10), (13, 9), (13, 15), (13, 14), (13, 11), (255, 7), (13, 0), (13, 7)]
+CHARACTERS = list('abzAZ019 .,{}$&#^_~%\\\n\r\t\0\x7f\x0c\x80\xff@!') + [
+    '^^', '^^4', '^^41', '^^5c', '^^M', '^^@', '^^?', '^^a', '^^5e^^', '^^^', '\n\n', '  ', r'\par', r'\ ', '%\n', '\\\n', r'\^^41',
+    r'\a^^62', '^^zz', '^^\x80', r'\^^M', '\r\n', '^^0a', '^^0d', ' \n', '\\^^5ca']
+CATEGORIES = [
+    (97, 0), (97, 7), (94, 12), (13, 12), (13, 13), (13, 5), (32, 12), (32, 9), (32, 13), (64, 11), (64, 13), (37, 12), (65, 15),
+    (46, 10), (123, 12), (125, 1), (92, 12), (126, 10), (127, 12), (0, 13), (9, 5), (65, 14), (49, 11), (13, 10), (13, 9), (13, 15),
+    (13, 14), (13, 11), (255, 7), (13, 0), (13, 7)]
 
 
 def texts():
@@ -568,8 +654,12 @@ def texts():
         calls = draw.choice([['P'], ['P'], ['p', 'p', 'f', 'P'], ['N'], ['f', 'n', 'p', 'N']])
         words = draw.choice([[], [], [], ['line=7'], ['line=4294967296', 'name=' + hexed('x/y.tex')], ['name=' + hexed('kernel')]])
         yield case(line, *calls, active={126: None}, registers=registers, words=words)
-    for line in ('', '\n', '\n\n', ' ', '  \n', '\r', '\r\n', 'a\r', 'a\rb', 'a\r\nb', 'a\r\r\n', '\\', '\\\n', '%', '%%\n%', 'a%', 'a %\n b', r'\a b', r'\a  b', r'\1 b', r'\  b', 'a \\ ', '\\^^M', '^^^^41', '^^5e^5e', '^^', '^^\n', '^^4', '^^4g', '^^A1', '^^\x7f', '^^\x80', '^^@',
-                 '\t a\tb', 'a  \t b', 'a\x00b', '\x7f', r'\^^?', r'\ab^^?', 'a\n\x7f', 'a\n\n^^?', '##1', '{#}', '~~', 'a\\par\n\n\nb', '\\^^61bc', r'\^^5c', r'a^^20b', '^^20a', 'a^^20', 'a^^0d b', '^^0d b\nc', 'x^^^^0db', r'\a^^0db', r'\^^20 b', '\xe4\xff', '\\\xe4b', '\\a1'):
+    for line in (
+            '', '\n', '\n\n', ' ', '  \n', '\r', '\r\n', 'a\r', 'a\rb', 'a\r\nb', 'a\r\r\n', '\\', '\\\n', '%', '%%\n%', 'a%', 'a %\n b',
+            r'\a b', r'\a  b', r'\1 b', r'\  b', 'a \\ ', '\\^^M', '^^^^41', '^^5e^5e', '^^', '^^\n', '^^4', '^^4g', '^^A1', '^^\x7f',
+            '^^\x80', '^^@', '\t a\tb', 'a  \t b', 'a\x00b', '\x7f', r'\^^?', r'\ab^^?', 'a\n\x7f', 'a\n\n^^?', '##1', '{#}', '~~',
+            'a\\par\n\n\nb', '\\^^61bc', r'\^^5c', r'a^^20b', '^^20a', 'a^^20', 'a^^0d b', '^^0d b\nc', 'x^^^^0db', r'\a^^0db',
+            r'\^^20 b', '\xe4\xff', '\\\xe4b', '\\a1'):
         for calls in (['P'], ['p', 'f', 'f', 'P']):
             yield case(line, *calls, active={126: None})
     yield case('ab', 'p', 'p', 'p', 'p', 'p', 'f', 'n', 'i')
@@ -584,9 +674,13 @@ def texts():
 # ---- words and bodies
 
 WORDS = [
-    '{abc}', 'a', ' b', '{}', '', '}', '{', r'{\b}', r'\b', r'{\c\c}', r'{a\relax}', r'{\noexpand\b}', '{~}', r'{\A}', '{{a}}', '{{{}}}', '{ a b }', r'{\number12 }', r'{\the\T}', r'{\the\C}', r'{\iftrue a\else b\fi}', r'{\iftrue a}\fi', r'{\if}', r'{\m}', r'{\m b}', r'{\h a}', r'{\h a.}', r'{\csname b\endcsname}',
-    r'{\csname}b\endcsname', r'{\string{}', r'{\string}}', r'{a\par}', '{a\n\nb}', '{a\nb}', r'{#$&^_}', r'{\l}', r'{\U}', r'{\halign}', r'{\expandafter\b\b}', r'{\iffalse}\fi a', r'{\fi}', r'{\expandafter}', r'{\noexpand}', r'{\string}', r'{\ifnum1<2}a\fi', r'{\input{a}}', r'{\input a }', r'{\arabic{page}}',
-    r'{\jobname}', r'\number1', r'\par', r'{\e}', r'\e', r'{\iffalse{\else b\fi}', r'{\iftrue{\else}\fi}}', r'\relax', '$', '#', '~', r'{^^?}', '{a^^41}', r'\input{a}', r'{\endinput}b', r'{\n a}', r'{\o}', r'{\o[a]}', r'{\o[a}', r'{\H a{b}}', r'{\romannumeral4}']
+    '{abc}', 'a', ' b', '{}', '', '}', '{', r'{\b}', r'\b', r'{\c\c}', r'{a\relax}', r'{\noexpand\b}', '{~}', r'{\A}', '{{a}}', '{{{}}}',
+    '{ a b }', r'{\number12 }', r'{\the\T}', r'{\the\C}', r'{\iftrue a\else b\fi}', r'{\iftrue a}\fi', r'{\if}', r'{\m}', r'{\m b}',
+    r'{\h a}', r'{\h a.}', r'{\csname b\endcsname}', r'{\csname}b\endcsname', r'{\string{}', r'{\string}}', r'{a\par}', '{a\n\nb}',
+    '{a\nb}', r'{#$&^_}', r'{\l}', r'{\U}', r'{\halign}', r'{\expandafter\b\b}', r'{\iffalse}\fi a', r'{\fi}', r'{\expandafter}',
+    r'{\noexpand}', r'{\string}', r'{\ifnum1<2}a\fi', r'{\input{a}}', r'{\input a }', r'{\arabic{page}}', r'{\jobname}', r'\number1',
+    r'\par', r'{\e}', r'\e', r'{\iffalse{\else b\fi}', r'{\iftrue{\else}\fi}}', r'\relax', '$', '#', '~', r'{^^?}', '{a^^41}',
+    r'\input{a}', r'{\endinput}b', r'{\n a}', r'{\o}', r'{\o[a]}', r'{\o[a}', r'{\H a{b}}', r'{\romannumeral4}']
 
 
 def words_and_bodies():
@@ -596,11 +690,18 @@ def words_and_bodies():
             yield case(joined(line, draw.choice(['', 'z', ' z', '}'])), *calls, files=files)
         body = line if line.startswith('{') else '{' + spaced(line) + '}'
         yield case(joined(body, 'z'), 'b', 'N', 'v', files=files)
-    pieces = ['a', '1', r'\b', r'\c', r'\relax', r'\noexpand\b', r'\noexpand\c', '{x}', '{', '}', r'\the\T', r'\the\toks5', r'\the\C', r'\the\S', r'\number\C', r'\expandafter\e\the\T', r'\e', '~', r'\noexpand~', r'\string\b', r'\m a', r'\m{\b}', r'\csname zz\endcsname', r'\csname b\endcsname', r'\iftrue\b\else c\fi', r'\par', '\n\n', ' ',
-              r'\expandafter\noexpand\csname b\endcsname', r'\expandafter\noexpand\c', r'\number1\noexpand\b', r'\the\hsize', r'\noexpand\U', r'\l', r'\B', r'\E', r'\h .', r'\thepage', r'\jobname', '$', '#', r'\fi', r'\U', r'\the\noexpand\T', r'\expandafter\the\T', r'\number1\the\T', r'\csname\the\T\endcsname', r'\N\the\T']
+    pieces = [
+        'a', '1', r'\b', r'\c', r'\relax', r'\noexpand\b', r'\noexpand\c', '{x}', '{', '}', r'\the\T', r'\the\toks5', r'\the\C',
+        r'\the\S', r'\number\C', r'\expandafter\e\the\T', r'\e', '~', r'\noexpand~', r'\string\b', r'\m a', r'\m{\b}',
+        r'\csname zz\endcsname', r'\csname b\endcsname', r'\iftrue\b\else c\fi', r'\par', '\n\n', ' ',
+        r'\expandafter\noexpand\csname b\endcsname', r'\expandafter\noexpand\c', r'\number1\noexpand\b', r'\the\hsize', r'\noexpand\U',
+        r'\l', r'\B', r'\E', r'\h .', r'\thepage', r'\jobname', '$', '#', r'\fi', r'\U', r'\the\noexpand\T', r'\expandafter\the\T',
+        r'\number1\the\T', r'\csname\the\T\endcsname', r'\N\the\T']
     for _ in range(330):
         line = '{' + joined(*some(pieces[:36] if draw.random() < 0.8 else pieces, 1, 5)) + draw.choice(['}', '}', '}', ''])
-        yield case(line, 'b', *draw.choice([['N'], ['v', 'N', 'v'], ['P']]), registers={'toks.5': tokens(draw.choice(['', r'\b', r'{\b}', r'\b\c x', r'\noexpand\b', 'a##', '~', r'\U', r'\the\T', r'\fi']))})
+        yield case(line, 'b', *draw.choice([['N'], ['v', 'N', 'v'], ['P']]),
+            registers={'toks.5': tokens(draw.choice([
+                '', r'\b', r'{\b}', r'\b\c x', r'\noexpand\b', 'a##', '~', r'\U', r'\the\T', r'\fi']))})
     for inner in ('a', 'a%', r'\number1%', r'a}%', r'\iffalse', r'\b%', r'\csname b%', ''):
         yield case(r'{x\input{a}y\endcsname\fi}z', 'b', 'N', files={'a.tex': inner})
         yield case(r'{x\input{a}y\endcsname\fi}z', 'w', 'N', files={'a.tex': inner})
@@ -608,13 +709,18 @@ def words_and_bodies():
 
 # ---- names without meaning
 
-REFUSED = r'\( \[ \ensuremath \math \displaymath \equation \eqnarray \halign \valign \noalign \omit \span \cr \tabular \array \tabbing \usepackage \RequirePackage \part \figure \table \special \read \openin \openout \write \outer \font \accent \verb \verbatim \vsplit \looseness \leaders \output \shipout'.split()
+REFUSED = r'''
+\( \[ \ensuremath \math \displaymath \equation \eqnarray \halign \valign \noalign \omit \span \cr \tabular \array \tabbing \usepackage
+\RequirePackage \part \figure \table \special \read \openin \openout \write \outer \font \accent \verb \verbatim \vsplit \looseness
+\leaders \output \shipout
+'''.split()
 
 
 def refused():
     for name in REFUSED:
         yield case(name + ' x', 'N')
-        yield case(draw.choice([r'\noexpand', r'\expandafter a', r'\string', r'\ifx', r'\iffalse', r'\csname', r'\number', r'\if', r'\m', r'\the']) + name + r' \endcsname x\fi', 'N', 'v')
+        yield case(draw.choice([
+            r'\noexpand', r'\expandafter a', r'\string', r'\ifx', r'\iffalse', r'\csname', r'\number', r'\if', r'\m', r'\the']) + name + r' \endcsname x\fi', 'N', 'v')
     for name in ('U', 'nosuch', 'bye', 'cr ', 'Cr', 'mathx', '1', '@', '^^M', '\xff', 'bgroup', 'quad', 'LaTeX'):
         for before in ('', 'a\n', r'\expandafter b', r'\number1', r'\iffalse', r'\noexpand', r'\b'):
             yield case(before + '\\' + name + ' z', 'N', 'v')
@@ -624,7 +730,9 @@ def refused():
     for name in ('relax', 'par', 'number', 'fi', 'input', 'endcsname', 'string', 'iftrue', 'hsize'):
         for meaning in (macro('', 'r'), 'none', row('number'), 'reg=count.5'):
             yield case(f'\\{name} 12 \\fi\\endcsname ', 'N', 'v', meanings={name: meaning})
-    for kind in ('\\par', '\\hbox', '\\ ', '\\char', '\\def', '\\global', '\\begingroup', '\\newif', '\\uppercase', '\\advance', '\\include', '\\item', '\\\\', '\\-', '\\/', '\\@head', '\\begin', '\\value', '\\endcsname', '\\let', '\\label', '\\year'):
+    for kind in (
+            '\\par', '\\hbox', '\\ ', '\\char', '\\def', '\\global', '\\begingroup', '\\newif', '\\uppercase', '\\advance', '\\include',
+            '\\item', '\\\\', '\\-', '\\/', '\\@head', '\\begin', '\\value', '\\endcsname', '\\let', '\\label', '\\year'):
         yield case(kind + ' 1', 'N')
 
 
@@ -641,8 +749,11 @@ def limits():
     yield case(r'\k{ab}.c', 'N', meanings={'k': macro('#1.#2', '[#1|#2]')})
     yield from reading_limits()
     yield from other_limits()
-    for body in (r'\number\k', r'\csname\k', r'\iftrue\k', r'\ifnum\k', r'\if\k', r'\ifcase\k', r'\the\count\k', r'\arabic{\k}', r'\romannumeral\k', r'\ifdim\k', r'\input\k', r'\input{\k}', r'\the\k', r'\k', r'\k\k', r'\expandafter\k', r'\number\value{\k}',
-                 r'\ifnum1<\k', r'\the\catcode\k', r'\the\value{\k}', r'\expandafter\relax\k', r'x\k', r'\iffalse\k', r'\ifnum1=1\number\k', r'\if a\if b\number\k'):
+    for body in (
+            r'\number\k', r'\csname\k', r'\iftrue\k', r'\ifnum\k', r'\if\k', r'\ifcase\k', r'\the\count\k', r'\arabic{\k}',
+            r'\romannumeral\k', r'\ifdim\k', r'\input\k', r'\input{\k}', r'\the\k', r'\k', r'\k\k', r'\expandafter\k',
+            r'\number\value{\k}', r'\ifnum1<\k', r'\the\catcode\k', r'\the\value{\k}', r'\expandafter\relax\k', r'x\k', r'\iffalse\k',
+            r'\ifnum1=1\number\k', r'\if a\if b\number\k'):
         for call in ('n', 'i', 'w', 'q'):
             if call == 'n' or draw.random() < 0.5:
                 yield case(r'\k', call, 'v', meanings={'k': macro('', body)}, words=['steps=70000'])
@@ -652,7 +763,7 @@ def reading_limits():
     """Readings of one kind inside one another, 9,999 to 10,001 deep. Macros of a hundred make the texts short."""
     for call, most in (('n', 10000), ('i', 9999), ('d', 9999), ('g', 9999), ('k746f', 9999)):
         for more in (0, 1):
-            start = '' if call in 'ni' else '1'
+            start = {'n': '', 'i': '', 'k': 't'}.get(call[0], '1')
             line = start + r'\k' * 99 + r'\number' * (most - 9900 + more) + '1 '
             if call[0] in 'dgk':
                 line += 'pt'
@@ -661,7 +772,8 @@ def reading_limits():
         line = r'\k' * 99 + r'\romannumeral' * (100 + more) + '1 '
         yield case(line, 'n', meanings=hundred(r'\romannumeral'), words=['steps=200000'])
         yield case(r'\k' * 99 + r'\csname' * (100 + more) + r'a\k', 'n', meanings=hundred(r'\csname'))
-        for zeros, last in ((100, r'\b'), (100, r'\relax'), (99, r'\number1 '), (98, r'\the\count5 '), (99, r'\the\C'), (99, r'\csname b\endcsname'), (99, r'\noexpand\b'), (99, r'\arabic{page}')):
+        for zeros, last in ((100, r'\b'), (100, r'\relax'), (99, r'\number1 '), (98, r'\the\count5 '), (99, r'\the\C'),
+            (99, r'\csname b\endcsname'), (99, r'\noexpand\b'), (99, r'\arabic{page}')):
             yield case(r'\k' * 99 + '~0' * (zeros + more) + last, 'n', meanings=hundred(r'\number'), active={126: row('expandafter')})
         yield case(r'\k' * 99 + r'\number' * (99 + more) + r'\arabic{page}', 'n', meanings=hundred(r'\number'))
         yield case(r'\k' * 99 + r'\number' * (98 + more) + r'\value{\number5}', 'n', meanings=hundred(r'\number'))
@@ -686,9 +798,9 @@ def other_limits():
     yield from token_limits()
 
 
-def million(more='', before='', after=''):
-    """Macros that make a million times the first argument's hundredth part, and what stands around it."""
-    return {'k': macro('#1', r'\j{' + '#1' * 100 + '}'), 'j': macro('#1', before + '#1' * 100 + more + after)}
+def million(more=''):
+    """Macros that make a million times the hundredth part of an argument of a hundred tokens."""
+    return {'k': macro('#1', r'\j{' + '#1' * 100 + '}'), 'j': macro('#1', '#1' * 100 + more)}
 
 
 def token_limits():
@@ -698,7 +810,8 @@ def token_limits():
     yield case(r'\k' + hundred_letters, 'n', meanings=million('b'))
     yield case(r'\expandafter z\j{' + 'a' * 100 + '}', 'n', meanings={'j': macro('#1', '#1' * 100)})
     almost = {
-        'k': macro('#1', r'\j{' + '#1' * 100 + '}{#1}a'), 'j': macro('#1#2#3', r'\i{' + '#1' * 99 + '#2' * 99 + '#3' * 98), 'i': macro('#1', '!', long=True)}
+        'k': macro('#1', r'\j{' + '#1' * 100 + '}{#1}a'), 'j': macro('#1#2#3', r'\i{' + '#1' * 99 + '#2' * 99 + '#3' * 98),
+        'i': macro('#1', '!', long=True)}
     for end in ('c', 'cc', 'ccc'):
         yield case(r'\k' + hundred_letters + end + '}', 'n', 'n', meanings=almost, words=['steps=3000000'])
 
@@ -706,12 +819,22 @@ def token_limits():
 # ---- steps that run out
 
 BASES = [
-    (r'\m{ab}c', ['N']), (r'\h a{.}b.c', ['N']), (r'\number 12 x', ['N']), (r'\romannumeral\C x', ['N']), (r'\iftrue a\else b\fi c', ['N', 'v']), (r'\iffalse a\else b\fi c', ['N', 'v']), (r'\ifcase1 a\or b\or c\fi', ['N', 'v']), (r'\ifnum1<2 a\fi', ['n', 'v', 'N', 'v']), (r'\ifnum1=1\fi a', ['N', 'v']),
-    (r'\if\b x y\else n\fi', ['N']), (r'\ifx\b\b y\fi', ['N']), (r'\ifdim1pt<2pt y\fi', ['N']), (r'\csname zz\endcsname\zz', ['N']), (r'\csname b\endcsname c', ['N']), (r'\expandafter a\b\c', ['N']), (r'\expandafter\m\c c', ['N']), (r'\noexpand\b\b', ['N']), (r'\string\b c', ['N']), (r'\the\C x', ['N']), (r'\the\S', ['n', 'n', 'n']),
-    (r'\the\T x', ['N']), (r'\the\count5 x', ['N']), (r'\arabic{page}x', ['N']), (r'\thepage x', ['N']), (r'\jobname', ['N']), (r'\input{a}b', ['N']), (r'\input a b', ['N']), (r'\input \b\relax', ['N']), (r'\o[a]b', ['N']), (r'\o b', ['N']), (r'\o  b', ['N']), ('12pt plus 1fil x', ['g', 'n']), ('1pt plus x', ['g', 'N']), ('-12 x', ['i', 'n']),
-    ("'17x", ['i', 'n']), ('`\\b x', ['i', 'N']), ('2.5cm x', ['d', 'n']), (r'2\D x', ['d', 'n']), ('tox', ['k746f', 'n']), ('  tx', ['k746f', 'N']), (r'\count5 x', ['q', 'n']), (r'\value{page}x', ['q', 'n']), (r'{a\b}c', ['w', 'n']), ('a', ['w', 'n']), (r'{a\b{c}\noexpand\b}d', ['b', 'n']), (r'{\the\T\the\C}d', ['b', 'n']), ('a\n\nb% c\nd', ['P']),
-    (r'\n{a}b', ['N']), (r'\H a{b}', ['N']), (r'\iffalse\iftrue\fi', ['N']), (r'\ifnum1<\iftrue2 a\fi b\fi', ['N', 'v']), (r'\ifnum3<\iftrue2 a\else b\fi c\else d\fi e', ['N', 'v']), (r'\number`a x', ['N']), (r'\U', ['N']), (r'\m}', ['N']), (r'\m', ['N']), (r'\fi', ['N']), ('a^^?', ['N']), (r'\number x', ['N']), (r'\the x', ['N']), (r'\csname a', ['N']), (r'\expandafter a', ['N']),
-    (r'\input{zz}', ['N']), (r'\count300 ', ['q']), (r'\alph{q}', ['N']), (r'\iffalse a', ['N']), (r'a\endinput b', ['N'])]
+    (r'\m{ab}c', ['N']), (r'\h a{.}b.c', ['N']), (r'\number 12 x', ['N']), (r'\romannumeral\C x', ['N']),
+    (r'\iftrue a\else b\fi c', ['N', 'v']), (r'\iffalse a\else b\fi c', ['N', 'v']), (r'\ifcase1 a\or b\or c\fi', ['N', 'v']),
+    (r'\ifnum1<2 a\fi', ['n', 'v', 'N', 'v']), (r'\ifnum1=1\fi a', ['N', 'v']), (r'\if\b x y\else n\fi', ['N']),
+    (r'\ifx\b\b y\fi', ['N']), (r'\ifdim1pt<2pt y\fi', ['N']), (r'\csname zz\endcsname\zz', ['N']), (r'\csname b\endcsname c', ['N']),
+    (r'\expandafter a\b\c', ['N']), (r'\expandafter\m\c c', ['N']), (r'\noexpand\b\b', ['N']), (r'\string\b c', ['N']),
+    (r'\the\C x', ['N']), (r'\the\S', ['n', 'n', 'n']), (r'\the\T x', ['N']), (r'\the\count5 x', ['N']), (r'\arabic{page}x', ['N']),
+    (r'\thepage x', ['N']), (r'\jobname', ['N']), (r'\input{a}b', ['N']), (r'\input a b', ['N']), (r'\input \b\relax', ['N']),
+    (r'\o[a]b', ['N']), (r'\o b', ['N']), (r'\o  b', ['N']), ('12pt plus 1fil x', ['g', 'n']), ('1pt plus x', ['g', 'N']),
+    ('-12 x', ['i', 'n']), ("'17x", ['i', 'n']), ('`\\b x', ['i', 'N']), ('2.5cm x', ['d', 'n']), (r'2\D x', ['d', 'n']),
+    ('tox', ['k746f', 'n']), ('  tx', ['k746f', 'N']), (r'\count5 x', ['q', 'n']), (r'\value{page}x', ['q', 'n']),
+    (r'{a\b}c', ['w', 'n']), ('a', ['w', 'n']), (r'{a\b{c}\noexpand\b}d', ['b', 'n']), (r'{\the\T\the\C}d', ['b', 'n']),
+    ('a\n\nb% c\nd', ['P']), (r'\n{a}b', ['N']), (r'\H a{b}', ['N']), (r'\iffalse\iftrue\fi', ['N']),
+    (r'\ifnum1<\iftrue2 a\fi b\fi', ['N', 'v']), (r'\ifnum3<\iftrue2 a\else b\fi c\else d\fi e', ['N', 'v']), (r'\number`a x', ['N']),
+    (r'\U', ['N']), (r'\m}', ['N']), (r'\m', ['N']), (r'\fi', ['N']), ('a^^?', ['N']), (r'\number x', ['N']), (r'\the x', ['N']),
+    (r'\csname a', ['N']), (r'\expandafter a', ['N']), (r'\input{zz}', ['N']), (r'\count300 ', ['q']), (r'\alph{q}', ['N']),
+    (r'\iffalse a', ['N']), (r'a\endinput b', ['N'])]
 
 
 def run_outs():
@@ -728,8 +851,12 @@ def run_outs():
 # ---- everything together
 
 SOUP = [
-    'a', 'b', '1', '2', '.', ' ', '{', '}', '{a}', '~', '\n', '\n\n', r'\b', r'\c', r'\d', r'\e', r'\y', r'\m', r'\n', r'\o', r'\h', r'\M', r'\H', r'\l', r'\s', r'\z', r'\C', r'\D', r'\S', r'\T', r'\A', r'\relax', r'\par', r'\number', r'\number', r'\romannumeral', r'\the', r'\the', r'\string', r'\expandafter', r'\expandafter', r'\noexpand',
-    r'\csname', r'\endcsname', r'\iftrue', r'\iffalse', r'\ifnum', r'\if', r'\ifx', r'\ifcat', r'\ifcase', r'\ifodd', r'\ifdim', r'\or', r'\else', r'\else', r'\fi', r'\fi', r'\fi', '<', '=', r'\count5 ', r'\value{page}', r'\arabic{page}', r'\thepage', r'\jobname', r'\input{a}', r'\endinput', '1pt', '2\\D', r'\K', r'\I', r'\J', '`', '-', '[a]', '%\n', r'\hsize', '5 ']
+    'a', 'b', '1', '2', '.', ' ', '{', '}', '{a}', '~', '\n', '\n\n', r'\b', r'\c', r'\d', r'\e', r'\y', r'\m', r'\n', r'\o', r'\h',
+    r'\M', r'\H', r'\l', r'\s', r'\z', r'\C', r'\D', r'\S', r'\T', r'\A', r'\relax', r'\par', r'\number', r'\number', r'\romannumeral',
+    r'\the', r'\the', r'\string', r'\expandafter', r'\expandafter', r'\noexpand', r'\csname', r'\endcsname', r'\iftrue', r'\iffalse',
+    r'\ifnum', r'\if', r'\ifx', r'\ifcat', r'\ifcase', r'\ifodd', r'\ifdim', r'\or', r'\else', r'\else', r'\fi', r'\fi', r'\fi', '<', '=',
+    r'\count5 ', r'\value{page}', r'\arabic{page}', r'\thepage', r'\jobname', r'\input{a}', r'\endinput', '1pt', '2\\D', r'\K', r'\I',
+    r'\J', '`', '-', '[a]', '%\n', r'\hsize', '5 ']
 CALLS = ['n', 'n', 'p', 'f', 'i', 'd', 'g', 'k746f', 'q', 'w', 'o', 'c', 'v', 'v']
 
 
@@ -738,13 +865,16 @@ def soups():
         line = joined(*some(SOUP, 3, 14))
         calls = ['N', 'v'] if draw.random() < 0.5 else [*some(CALLS, 1, 4), 'N', 'v']
         files = {'a.tex': joined(*some(SOUP[:60], 0, 5)).replace(r'\input', '')} if 'input{a}' in line else None
-        yield case(line, *calls, files=files, active={126: draw.choice([macro('', 'y'), macro('#1', '(#1)'), row('expandafter'), None])}, words=[f'mode={draw.choice(MODES)}', 'steps=2000'])
+        yield case(line, *calls, files=files, active={126: draw.choice([macro('', 'y'), macro('#1', '(#1)'), row('expandafter'), None])},
+            words=[f'mode={draw.choice(MODES)}', 'steps=2000'])
 
 
 def main():
     """Each case once."""
     seen = set()
-    for cases in (limits, arguments, conditionals, csnames, chains, quantities, printings, inputs, scans, texts, words_and_bodies, refused, run_outs, soups):
+    for cases in (
+            limits, arguments, conditionals, csnames, chains, quantities, printings, inputs, scans, texts, words_and_bodies, refused,
+            run_outs, soups):
         for line in cases():
             if line not in seen:
                 seen.add(line)

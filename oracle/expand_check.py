@@ -41,7 +41,8 @@ BY_HAND = [
     (case(r'\the\maxdepth', 'N'), '5.0pt', 7), (case(r'\the\catcode`\%', 'N'), '14', 7), (case(r'\ifnum1<2 a\else b\fi c', 'N'), 'ac ', 12),
     (case(r'\csname b\endcsname', 'N', sets=[X]), 'x', 5), (case(r'\jobname', 'N'), 'main', 5), (case(r'\arabic{page}', 'N'), '1 ', 14),
     (case(r'\ifcase2 a\or b\or c\else d\fi', 'N'), 'c', 11), (case(r'\string\b\string a', 'N'), r'\ba ', 8), (case('a\n\nb', 'P'), None, 5),
-    (case(r'\iffalse\iftrue\else\fi a\fi', 'N'), '', 6), (case(r'\if\c x y\fi', 'N', sets=[X, C]), ' y', 8), (case(r'\fi', 'N'), '!ExtraFi', 1)]
+    (case(r'\iffalse\iftrue\else\fi a\fi', 'N'), '', 6), (case(r'\if\c x y\fi', 'N', sets=[X, C]), ' y', 8),
+    (case(r'\fi', 'N'), '!ExtraFi', 1)]
 
 
 def line_of(tokens):
@@ -148,17 +149,16 @@ def one_argument(rest, delimiter, long):
         return without_argument(rest, long), rest
     if not long and expand.PAR in found:
         return '!Runaway', rest
-    inner = found[1:-1] if len(found) > 1 and found[0].startswith('c1:') and depth_of(found[1:-1]) == 0 and found[-1].startswith('c2:') else found
-    return inner, rest[len(found) + len(delimiter):]
+    rest = rest[len(found) + len(delimiter):]
+    one_group = found[:1] and found[0].startswith('c1:') and found[-1].startswith('c2:') and depth_of(found[1:-1]) == 0
+    return found[1:-1] if one_group else found, rest
 
 
 def by_relation(macro, rest):
     """What the macro makes of a list: tokens, or a fault."""
     front, delimiters = expand.parts_of_pattern(macro.pattern)
     for at, token in enumerate(front):
-        if at == len(rest):
-            return ['!Runaway']
-        if rest[at] != token:
+        if rest[at:at + 1] != [token]:
             return ['!UseMismatch']
     rest = rest[len(front):]
     found = []
@@ -194,8 +194,10 @@ def check_arguments(words):
 
 # ---- conditionals as trees
 
-TRUE = [r'\iftrue ', r'\ifnum1<2 ', r'\ifx aa', r'\if aa', r'\ifcat ab', r'\ifodd3 ', r'\ifdim1pt<2pt ', r'\ifvmode ', r'\ifnum0\iffalse1\fi=0 ', r'\ifx\zz\yy ']
-FALSE = [r'\iffalse ', r'\ifnum2<2 ', r'\ifx ab', r'\if ab', r'\ifcat a1', r'\ifodd4 ', r'\ifdim1pt>2pt ', r'\ifhmode ', r'\ifnum0\iftrue1\fi=0 ']
+TRUE = [r'\iftrue ', r'\ifnum1<2 ', r'\ifx aa', r'\if aa', r'\ifcat ab', r'\ifodd3 ', r'\ifdim1pt<2pt ', r'\ifvmode ',
+    r'\ifnum0\iffalse1\fi=0 ', r'\ifx\zz\yy ']
+FALSE = [r'\iffalse ', r'\ifnum2<2 ', r'\ifx ab', r'\if ab', r'\ifcat a1', r'\ifodd4 ', r'\ifdim1pt>2pt ', r'\ifhmode ',
+    r'\ifnum0\iftrue1\fi=0 ']
 
 
 def tree(depth):
