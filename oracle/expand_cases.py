@@ -333,6 +333,32 @@ NAMES = [
     r'\the\C', r'\the\T', r'\l', r'\relax', r'\expandafter\b\b', r'\expandafter', r'\noexpand', r'\A', '\n', '\n\n', r'\fi']
 
 
+def active_commands():
+    """After an active character or a control symbol spaces are tokens."""
+    names = [
+        'input', 'arabic', 'value', 'string', 'noexpand', 'expandafter', 'csname', 'number', 'romannumeral', 'the', 'count', 'if', 'ifcat',
+        'ifx', 'ifnum', 'ifcase', 'jobname', 'endinput', 'thepage', 'else', 'iffalse']
+    macros = [
+        macro('', 'r'), macro('#1', '(#1)'), macro('', '[#1]', first='q'), macro('#2', '[#1|#2]', first='q'), macro('#1 #2', '#2,#1')]
+    lines = [
+        '~ a b', '~  {page}z', '~\n{page}z', '~\n\n', '~', '~ 1 2', '~ [a]b', '~ %\n [a] {c}', r'~ \b ', r'~ \m{ a }\endcsname',
+        r'~ {a}{ b}\fi', '~ =~ =']
+    for meaning in [*map(row, names), *macros]:
+        for line in lines:
+            files = {'a.tex': 'x'} if meaning == row('input') else None
+            if draw.random() < 0.6:
+                yield case(line, *draw.choice([['N', 'v'], ['q', 'N'], ['w', 'N']]), files=files, active={126: meaning})
+    meanings = {'k': macro('#1', '#1'), '1': macro('#2', '[#1|#2]', first='q'), 'i': macro('#1', r'\input#1')}
+    for line in (
+            r'\input\k{ a }', r'\i{ {a}}', r'\i{ a }', r'\i{  a b}z', r'\input\k{  a }z', r'\1 [a]b', r'\1  [a]b', '\\1\n[a]b', r'\1 b',
+            r'\1  {[}', '\\1\n\nb', r'\1 %', r'\1', '\\1 \n [a', r'\i{ }', r'\i{ }%'):
+        yield case(line, 'N', files={'a.tex': 'x'}, meanings=meanings)
+    for line in (r'\number\noexpand\U', r'\the\noexpand\U', r'\ifnum\noexpand\U', r'\count\noexpand\U', r'\noexpand\U'):
+        yield case(line, 'q', 'N')
+    yield case('', 'q')
+    yield case('%', 'q', 'w')
+
+
 def csnames():
     for _ in range(380):
         name = joined(*some(NAMES[:30] if draw.random() < 0.8 else NAMES, 0, 3))
@@ -720,7 +746,8 @@ def refused():
     for name in REFUSED:
         yield case(name + ' x', 'N')
         yield case(draw.choice([
-            r'\noexpand', r'\expandafter a', r'\string', r'\ifx', r'\iffalse', r'\csname', r'\number', r'\if', r'\m', r'\the']) + name + r' \endcsname x\fi', 'N', 'v')
+            r'\noexpand', r'\expandafter a', r'\string', r'\ifx', r'\iffalse', r'\csname', r'\number', r'\if', r'\m',
+            r'\the']) + name + r' \endcsname x\fi', 'N', 'v')
     for name in ('U', 'nosuch', 'bye', 'cr ', 'Cr', 'mathx', '1', '@', '^^M', '\xff', 'bgroup', 'quad', 'LaTeX'):
         for before in ('', 'a\n', r'\expandafter b', r'\number1', r'\iffalse', r'\noexpand', r'\b'):
             yield case(before + '\\' + name + ' z', 'N', 'v')
@@ -873,7 +900,8 @@ def main():
     """Each case once."""
     seen = set()
     for cases in (
-            limits, arguments, conditionals, csnames, chains, quantities, printings, inputs, scans, texts, words_and_bodies, refused,
+            limits, arguments, conditionals, active_commands, csnames, chains, quantities, printings, inputs, scans, texts,
+            words_and_bodies, refused,
             run_outs, soups):
         for line in cases():
             if line not in seen:
