@@ -814,7 +814,7 @@ def reading_limits():
 
 
 def other_limits():
-    for test in (r'\iftrue', r'\ifodd1 ', r'\if aa'):
+    for test in (r'\iftrue', r'\ifnum\tolerance=\tolerance', r'\if aa'):
         for more in (0, 1):
             yield case(r'\k' * 99 + test * (100 + more) + 'z', 'n', 'v', meanings=hundred(test))
     for more in (0, 1):
