@@ -798,7 +798,7 @@ def reading_limits():
     for more in (0, 1):
         line = r'\k' * 99 + r'\romannumeral' * (100 + more) + '1 '
         yield case(line, 'n', meanings=hundred(r'\romannumeral'), words=['steps=200000'])
-        yield case(r'\k' * 99 + r'\csname' * (100 + more) + r'a\k', 'n', meanings=hundred(r'\csname'))
+        yield case(r'\k' * 99 + r'\csname' * (100 + more) + r' a\k', 'n', meanings=hundred(r'\csname'))
         for zeros, last in ((100, r'\b'), (100, r'\relax'), (99, r'\number1 '), (98, r'\the\count5 '), (99, r'\the\C'),
             (99, r'\csname b\endcsname'), (99, r'\noexpand\b'), (99, r'\arabic{page}')):
             yield case(r'\k' * 99 + '~0' * (zeros + more) + last, 'n', meanings=hundred(r'\number'), active={126: row('expandafter')})
@@ -816,11 +816,11 @@ def reading_limits():
 def other_limits():
     for test in (r'\iftrue', r'\ifnum\tolerance=\tolerance', r'\if aa'):
         for more in (0, 1):
-            yield case(r'\k' * 99 + test * (100 + more) + 'z', 'n', 'v', meanings=hundred(test))
+            yield case(r'\k' * 99 + spaced(test * (100 + more)) + 'z', 'n', 'v', meanings=hundred(test))
     for more in (0, 1):
-        yield case(r'\k' * 99 + r'\if' * (100 + more) + 'z', 'n', 'v', meanings=hundred(r'\if'))
+        yield case(r'\k' * 99 + r'\if' * (100 + more) + ' z', 'n', 'v', meanings=hundred(r'\if'))
         yield case(r'\k' * 99 + r'\ifcase' * (100 + more) + '0z', 'n', 'v', meanings=hundred(r'\ifcase'))
-        yield case(r'\iffalse' + r'\k' * 99 + r'\iftrue' * (100 + more) + 'z', 'n', 'v', meanings=hundred(r'\iftrue'))
+        yield case(r'\iffalse' + r'\k' * 99 + r'\iftrue' * (100 + more) + ' z', 'n', 'v', meanings=hundred(r'\iftrue'))
         yield case(r'\k' * 99 + r'\iftrue' * 100 + r'\fi' * more + r'\iftrue z', 'n', 'v', meanings=hundred(r'\iftrue'))
     yield from token_limits()
 
