@@ -160,6 +160,13 @@ impl Source {
         Ok(true)
     }
 
+    /// Whether so many tokens more may be pending. Takes no memory.
+    pub fn has_room(&self, count: u64) -> bool
+        ensures { nat_lt 1000000 (count + pending self.now) ≡ not result }
+    {
+        count.saturating_add(self.count) <= MOST_PENDING
+    }
+
     /// How many texts are open. Takes no memory, and the same time for any number.
     #[tactic(auto, using(crate::proofs::LayerLemmas::texts_open))]
     pub fn texts(&self) -> u64
