@@ -20,10 +20,15 @@ module _ {T P : Type 0} where
   abbrev pub board_chapters : Board T P → ℕ
   board_chapters b = b.chapters
 
-  -- a seat of this board, between two calls: it has the slot of the chapter that it holds, which is one of the board's, is taking none, and was
-  -- not joined to another
-  abbrev pub IsSeatOf : Board T P → BoardSeat T P → Type 0
-  IsSeatOf b s = (s.seat.table_id ≡ b.table.shared.table_id) × (s.seat.me.1 ≡ out s.seat.me.0.held) × (s.seat.me.0.taking ≡ None) × (0 < s.seat.me.0.allowance) × IfSome s.seat.me.0.held (λ c. c < b.chapters)
+  -- a seat of this board, between two calls
+  pub record IsSeatOf (b : Board T P) (s : BoardSeat T P) : Type 0 where
+    pub table : s.seat.table_id ≡ b.table.shared.table_id
+    -- the slot of the chapter that it holds is out with it, and no other
+    pub slots : s.seat.me.1 ≡ out s.seat.me.0.held
+    pub taking : s.seat.me.0.taking ≡ None
+    -- it was not joined to another
+    pub live : 0 < s.seat.me.0.allowance
+    pub within : IfSome s.seat.me.0.held (λ c. c < b.chapters)
 
 module _ {P : Type 0} where
   -- what a draw gives, over so many chapters, and what the seat knows after it: a chapter has its ticket, and is above all that the seat drew

@@ -19,7 +19,7 @@ swap-requires g c =
     let has = ap (λ m. m.1) now in
     let sized = c.args.self.now.sized in
     let low = c.requires.within in
-    let some_left = c.requires.board.3 in (
+    let some_left = c.requires.board.live in (
       search rules,
       omega arith,
       empties _ _ _ _ _ c.exchange-posted.new.seat.me c.args.chapter (sized.1 ∙ sym sized.2) (omega arith) (subst (λ m. 0 < m.0.allowance) (sym (now ∙ λ i. ((did.1 i).0, (c.args.chapter, None) ∷ rest (did.1 i).1))) (search rules))
