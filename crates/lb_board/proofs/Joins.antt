@@ -188,6 +188,7 @@ module _ {T P : Type 0} (fits : P → ℕ → T → Type 0) (plan : P) (n : ℕ)
       refl,
       (λ c. omega (arith, term_le (drawings c) s.views id v at, r.once c)),
       (λ c. omega (arith, term_le (takings c) s.views id v at, r.taken_once c)),
+      omega (arith, term_le allowed s.views id v at, r.allowances),
       (λ whole halted. some_bit v.called (let sum = r.allowances in let k = r.halted_called id v at halted in
           let all = total_only calls s.views id v at (λ j u ne e. ap calls ((r.each j u e).spent (let two = terms_le allowed s.views id j v u ne at e in omega arith))) in omega arith)),
     ),

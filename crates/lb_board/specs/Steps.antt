@@ -37,8 +37,8 @@ module _ {T P : Type 0} where
   abbrev pub called : Step (Option T) → Sat T P → ℕ → Sat T P → Type 0
   called st m r m' = m' ≡ (with_called m.0, m.1)
 
-  -- a load behind a join: no number stands twice in what the seat drew, nor in what it took, and where no other seat is left, it was halted
-  -- only where it halted the board
+  -- a load behind a join: no number stands twice in what the seat drew, nor in what it took; it has no more than the whole, and where it has
+  -- that, it was halted only where it halted the board
   abbrev pub learned : Step (Option T) → Sat T P → ℕ → Sat T P → Type 0
   learned st m r m' =
-      (m' ≡ m) × ((c : ℕ) → times c m.0.drawn ≤ 1) × ((c : ℕ) → times c m.0.taken ≤ 1) × (m.0.allowance ≡ 65536 → m.0.halted ≡ true → m.0.called ≡ true)
+      (m' ≡ m) × ((c : ℕ) → times c m.0.drawn ≤ 1) × ((c : ℕ) → times c m.0.taken ≤ 1) × (m.0.allowance ≤ 65536) × (m.0.allowance ≡ 65536 → m.0.halted ≡ true → m.0.called ≡ true)

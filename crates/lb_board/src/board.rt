@@ -49,6 +49,13 @@ impl<T: Fits<P>, P: Planned + Drop> Board<T, P> {
         Ok((Board { table, chapters }, BoardSeat { seat }))
     }
 
+    /// The number of its chapters.
+    pub fn chapters(&self) -> u32
+        ensures { result ≡ board_chapters self.now }
+    {
+        self.chapters
+    }
+
     /// Draws the next chapter: no other draw, of any seat, gives its number. `Halted` comes only where the halt word was loaded and found set,
     /// and `NoMore` exactly where it was not and the draw word was at least the number of chapters. The seat must hold no chapter, and have
     /// had neither of the two. Takes no memory.
@@ -148,6 +155,7 @@ impl<T: Fits<P>, P: Planned + Drop> Board<T, P> {
         ensures view { seat_view seat.new ≡ both (seat_view seat.old) (seat_view other) }
         ensures drawn_once { (c : ℕ) → times c (seat_view seat.new).drawn ≤ 1 }
         ensures taken_once { (c : ℕ) → times c (seat_view seat.new).taken ≤ 1 }
+        ensures part { (seat_view seat.new).allowance ≤ 65536 }
         ensures halted { (seat_view seat.new).allowance ≡ 65536 → (seat_view seat.new).halted ≡ true → (seat_view seat.new).called ≡ true }
     {
         let words = &self.table.shared;
