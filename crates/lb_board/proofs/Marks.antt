@@ -6,10 +6,9 @@ use mathlib.Core.Option as maybe
 use mathlib.Core.Logic.{dite}
 use native.Mathlib.Decide.{ℕ_discrete, dec_le}
 use lib.ListN.{get_elem?}
-use lib.Seq.{set-get_or}
 use prog.Atomic.{either}
 use Rattle.atomic_table.specs.Table.{State, Me, step, keeps, takes, gives, rest, put_back, Valid, stepped, carried_after, Allows}
-use Rattle.atomic_table.proofs.Lists.{set_here, set_else, set_again, exchanged}
+use Rattle.atomic_table.proofs.Lists.{set_here, set_else, exchanged}
 use Rattle.lb_board.specs.declared.view.View.{View}
 use Rattle.lb_board.specs.Rules.{Ready, Rules, Sits, mark_in}
 use Rattle.lb_board.specs.Steps.{emptied, posted, took}

@@ -52,7 +52,8 @@ pub record Rules {T P : Type 0} (fits : P → ℕ → T → Type 0) (plan : P) (
   pub fresh : (c : ℕ) → slice_index s.words 0 ≤ c → c < n → (mark_in s.words c ≡ 0) × (get_elem? s.homes c ≡ some (some None))
   pub ready : (c : ℕ) → c < n → mark_in s.words c ≡ 1 → Ready fits plan s.homes c
   -- one seat at most is taking a chapter
-  pub one_taker : (i j : ℕ) (v w : View P) (c : ℕ) → get_elem? s.views i ≡ some v → get_elem? s.views j ≡ some w → v.taking ≡ Some c → w.taking ≡ Some c → i ≡ j
+  pub one_taker : (i j : ℕ) (v w : View P) (c : ℕ) → get_elem? s.views i ≡ some v → get_elem? s.views j ≡ some w
+      → v.taking ≡ Some c → w.taking ≡ Some c → i ≡ j
   -- the whole is 2^16
   pub allowances : total allowed s.views ≡ 65536
   -- what was drawn, a seat drew

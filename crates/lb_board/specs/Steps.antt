@@ -16,7 +16,9 @@ module _ {T P : Type 0} where
 
   -- an add to the draw word: a number is above all that the seat drew before
   abbrev pub drew : Step (Option T) → Sat T P → ℕ → Sat T P → Type 0
-  drew st m r m' = (r < st.slots → (m' ≡ (with_drawn r m.0, (r, None) ∷ m.1)) × ((x : ℕ) → 0 < times x m.0.drawn → x < r)) × (st.slots ≤ r → m' ≡ (with_no_more m.0, m.1))
+  drew st m r m' =
+      (r < st.slots → (m' ≡ (with_drawn r m.0, (r, None) ∷ m.1)) × ((x : ℕ) → 0 < times x m.0.drawn → x < r))
+      × (st.slots ≤ r → m' ≡ (with_no_more m.0, m.1))
 
   -- a swap of a mark to 1
   abbrev pub posted : Step (Option T) → Sat T P → ℕ → Sat T P → Type 0
@@ -26,7 +28,8 @@ module _ {T P : Type 0} where
   -- it found no 1, and where it is the last it took the chapter before
   abbrev pub took : (P → ℕ → T → Type 0) → P → Step (Option T) → Sat T P → ℕ → Sat T P → Type 0
   took fits plan st m r m' =
-      (r ≡ st.first → (x : T) × (m' ≡ (with_taking (st.word - 2) m.0, (st.word - 2, Some x) ∷ m.1)) × fits plan (st.word - 2) x × (times (st.word - 2) m.0.taken ≡ 0))
+      (r ≡ st.first → (x : T) × (m' ≡ (with_taking (st.word - 2) m.0, (st.word - 2, Some x) ∷ m.1)) × fits plan (st.word - 2) x
+      × (times (st.word - 2) m.0.taken ≡ 0))
       × (r ≢ st.first → (m' ≡ (with_missed (st.word - 2) m.0, m.1)) × (IsLast m.0 → 0 < times (st.word - 2) m.0.taken))
 
   -- a swap of a mark to 3
@@ -41,4 +44,5 @@ module _ {T P : Type 0} where
   -- that, it was halted only where it halted the board
   abbrev pub learned : Step (Option T) → Sat T P → ℕ → Sat T P → Type 0
   learned st m r m' =
-      (m' ≡ m) × ((c : ℕ) → times c m.0.drawn ≤ 1) × ((c : ℕ) → times c m.0.taken ≤ 1) × (m.0.allowance ≤ 65536) × (m.0.allowance ≡ 65536 → m.0.halted ≡ true → m.0.called ≡ true)
+      (m' ≡ m) × ((c : ℕ) → times c m.0.drawn ≤ 1) × ((c : ℕ) → times c m.0.taken ≤ 1) × (m.0.allowance ≤ 65536)
+      × (m.0.allowance ≡ 65536 → m.0.halted ≡ true → m.0.called ≡ true)

@@ -28,7 +28,8 @@ module _ {P : Type 0} where
   IsLast v = (v.allowance ≡ 65536) × (v.no_more ≡ true)
 
   abbrev pub idle_view : P → ℕ → View P
-  idle_view plan k = record { plan = plan; drawn = []; no_more = false; halted = false; called = false; allowance = k; held = None; taking = None; taken = []; missed = [] }
+  idle_view plan k =
+      record { plan = plan; drawn = []; no_more = false; halted = false; called = false; allowance = k; held = None; taking = None; taken = []; missed = [] }
 
   -- the seat that a board is made with
   abbrev pub first_view : P → View P
@@ -80,7 +81,7 @@ module _ {P : Type 0} where
 
   -- the new seat has the other half, and knows what was found
   abbrev pub right_half : View P → View P
-  right_half v = record { plan = v.plan; drawn = []; no_more = v.no_more; halted = v.halted; called = false; allowance = v.allowance / 2; held = None; taking = None; taken = []; missed = [] }
+  right_half v = record (idle_view v.plan (v.allowance / 2)) { no_more = v.no_more; halted = v.halted }
 
   -- a seat to which another was joined has and knows what both did
   abbrev pub both : View P → View P → View P

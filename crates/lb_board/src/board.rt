@@ -130,7 +130,8 @@ impl<T: Fits<P>, P: Planned + Drop> Board<T, P> {
         ensures board { IsSeatOf self.now seat.new }
         ensures view { seat_view seat.new ≡ with_called (seat_view seat.old) }
     {
-        let _ = self.table.shared.fetch_or::<OrHalt>(&mut seat.seat, HALT, 1);
+        let words = &self.table.shared;
+        let _ = words.fetch_or::<OrHalt>(&mut seat.seat, HALT, 1);
     }
 
     /// A new seat, with half of the old one's allowance, rounded down. The old one holds no chapter and keeps the rest. Takes no memory.
@@ -142,7 +143,8 @@ impl<T: Fits<P>, P: Planned + Drop> Board<T, P> {
         ensures old { seat_view seat.new ≡ left_half (seat_view seat.old) }
         ensures new { seat_view result ≡ right_half (seat_view seat.old) }
     {
-        let other = self.table.shared.split_seat::<Halves>(&mut seat.seat);
+        let words = &self.table.shared;
+        let other = words.split_seat::<Halves>(&mut seat.seat);
         BoardSeat { seat: other }
     }
 

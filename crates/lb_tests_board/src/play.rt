@@ -32,11 +32,7 @@ pub(crate) fn show(
 }
 
 /// Makes a step.
-fn make(
-    board: &Board<u64, FromOwn>,
-    workers: &mut Vec<Worker>,
-    step: Step,
-) -> Result<Answer, Stop>
+fn make(board: &Board<u64, FromOwn>, workers: &mut Vec<Worker>, step: Step) -> Result<Answer, Stop>
     requires { All (IsWorkerOf board.now) workers.old.items }
     ensures { OnOk result (All (IsWorkerOf board.now) workers.new.items) }
 {
@@ -103,11 +99,7 @@ fn is_idle(workers: &[Worker], seat: usize) -> bool {
 }
 
 /// Takes a worker out, and those behind it move up.
-fn take_out(
-    board: &Board<u64, FromOwn>,
-    workers: &mut Vec<Worker>,
-    seat: usize,
-) -> Option<Worker>
+fn take_out(board: &Board<u64, FromOwn>, workers: &mut Vec<Worker>, seat: usize) -> Option<Worker>
     requires { All (IsWorkerOf board.now) workers.old.items }
     ensures left { All (IsWorkerOf board.now) workers.new.items }
     ensures out { IfSome result (IsWorkerOf board.now) }

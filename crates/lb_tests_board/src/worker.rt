@@ -34,10 +34,7 @@ impl Worker {
     ghost use Rattle.lb_tests_board.specs.Workers.{IsWorkerOf};
 
     /// The first worker of a board.
-    pub(crate) fn first(
-        board: &Board<u64, FromOwn>,
-        seat: BoardSeat<u64, FromOwn>,
-    ) -> Worker
+    pub(crate) fn first(board: &Board<u64, FromOwn>, seat: BoardSeat<u64, FromOwn>) -> Worker
         requires seat { IsSeatOf board.now seat }
         requires first { seat_view seat ≡ first_view (record {}) }
         ensures { IsWorkerOf board.now result }
@@ -141,11 +138,7 @@ impl Worker {
     }
 
     /// Joins another worker to this one, where neither holds a chapter.
-    pub(crate) fn join(
-        &mut self,
-        board: &Board<u64, FromOwn>,
-        other: Worker,
-    ) -> Result<(), Stop>
+    pub(crate) fn join(&mut self, board: &Board<u64, FromOwn>, other: Worker) -> Result<(), Stop>
         requires { IsWorkerOf board.now self.old × IsWorkerOf board.now other }
         ensures { OnOk result (IsWorkerOf board.now self.new) }
     {
