@@ -37,9 +37,10 @@ module _ {T P : Type 0} (fits : P → ℕ → T → Type 0) (plan : P) (n : ℕ)
       → get_or ws 1 0 ≤ 1
       → going (record v { halted = halted }) ≤ going v → bit v.called ≤ bit calls_now
       → (get_or ws 1 0 ≡ 1 → 0 < total calls (set s.views id (record v { halted = halted; called = calls_now; missed = l })))
+      → (0 < total calls (set s.views id (record v { halted = halted; called = calls_now; missed = l })) → get_or ws 1 0 ≡ 1)
       → (halted ≡ true → 0 < total calls (set s.views id (record v { halted = halted; called = calls_now; missed = l })))
       → H (at_words ws s.homes (set s.views id (record v { halted = halted; called = calls_now; missed = l })))
-  flagged s r id v ws halted calls_now l at has long same_draws same_marks low less more bit_called halt_called =
+  flagged s r id v ws halted calls_now l at has long same_draws same_marks low less more bit_called called_bit halt_called =
       let w : View P = record v { halted = halted; called = calls_now; missed = l } in
       let d : ℕ = get_or s.words 0 0 in let d' : ℕ = get_or ws 0 0 in
       record {
@@ -54,12 +55,14 @@ module _ {T P : Type 0} (fits : P → ℕ → T → Type 0) (plan : P) (n : ℕ)
               ended = λ e. let b = m.ended e in (omega arith, b.1);
               marked = λ c h apart. omega (arith, m.marked c h apart, same_marks c (m.below c h).1);
               had = λ c h. let b = m.had c h in let a = same_marks c b.1 in (omega arith, b.1);
+              done = λ c h free. same_marks c (m.had c h).1 ∙ m.done c h free;
             })
-            (λ j u ne e. let q = r.each j u e in stays plan n d d' (mark_in s.words) (mark_in ws) u q (omega arith) (λ c h. same_marks c (q.below c (q.holds c h).0).1) (λ c h. same_marks c (q.takes c h).1) (λ c low'. omega (arith, same_marks c low')));
+            (λ j u ne e. let q = r.each j u e in stays plan n d d' (mark_in s.words) (mark_in ws) u q (omega arith) (λ c h. same_marks c (q.below c (q.holds c h).0).1) (λ c h. same_marks c (q.takes c h).1) (λ c low'. omega (arith, same_marks c low')) (λ c low' e. same_marks c low' ∙ e));
         once = λ c. omega (arith, total_same (drawings c) s.views id v w at refl, r.once c);
         within = let t = total-set going s.views id v w at in let b = r.within in omega arith;
         halt_bit = low;
         halt_called = bit_called;
+        halt_set = called_bit;
         halted_called = put s.views id w (λ j u. u.halted ≡ true → 0 < total calls (set s.views id w)) halt_called
             (λ j u ne e h. let t = total-set calls s.views id v w at in let b = r.halted_called j u e h in omega arith);
         fresh = λ c up low'. let f = r.fresh c (omega arith) low' in (same_marks c low' ∙ f.0, f.1);
@@ -75,7 +78,11 @@ module _ {T P : Type 0} (fits : P → ℕ → T → Type 0) (plan : P) (n : ℕ)
   pub noted : (s : St) (r : H s) (id : ℕ) (v : View P) (l : List ℕ) → get_elem? s.views id ≡ some v → 0 < v.allowance → H (at_words s.words s.homes (set s.views id (record v { missed = l })))
   noted s r id v l at has = let w : View P = record v { missed = l } in let t = total_same calls s.views id v w at refl in
       flagged s r id v s.words v.halted v.called l at has refl refl (λ c low. refl) r.halt_bit (omega arith) (omega arith)
-      (λ is. let b = r.halt_called is in omega arith) (λ is. let b = r.halted_called id v at is in omega arith)
+      (λ is. let b = r.halt_called is in omega arith) (λ is. r.halt_set (omega arith)) (λ is. let b = r.halted_called id v at is in omega arith)
+
+  not_called : (b : Bool) → (b ≡ true → ⊥) → b ≡ false
+  not_called true f = absurd (f refl)
+  not_called false f = refl
 
   pub sees_halt : (slots id : ℕ) (m : Me (Option T) (View P)) → 0 < m.0.allowance → Allows H slots id m 1 (λ x. x) (saw_halt (step slots 1 0 0 none) m)
   sees_halt slots id m has s r long at fits64 = let v : View P = m.0 in let x : ℕ = get_or s.words 1 0 in dite (ℕ_discrete x 1)
@@ -85,7 +92,7 @@ module _ {T P : Type 0} (fits : P → ℕ → T → Type 0) (plan : P) (n : ℕ)
         keeps,
         tt,
         loaded s 1 (set s.views id w) (flagged s r id v s.words true v.called v.missed at has refl refl (λ c low. refl) r.halt_bit
-            (let z = flat v.no_more 0 refl in omega arith) (omega arith) (λ _. enough) (λ _. enough)),
+            (let z = flat v.no_more 0 refl in omega arith) (omega arith) (λ _. enough) (λ _. set_) (λ _. enough)),
         ((λ _. refl), (λ no. absurd (no set_))),
       ))
       (λ unset. (
@@ -93,7 +100,7 @@ module _ {T P : Type 0} (fits : P → ℕ → T → Type 0) (plan : P) (n : ℕ)
         keeps,
         tt,
         loaded s 1 (set s.views id v) (noted s r id v v.missed at has),
-        ((λ is. absurd (unset is)), (λ _. refl)),
+        ((λ is. absurd (unset is)), (λ _. (refl, not_called v.called (λ is. let part = term_le calls s.views id v at in let one = ap bit is in unset (r.halt_set (omega arith)))))),
       ))
 
   -- the next chapter is drawn
@@ -117,16 +124,18 @@ module _ {T P : Type 0} (fits : P → ℕ → T → Type 0) (plan : P) (n : ℕ)
               holds = λ x e. let is : c ≡ x = cc in let z = same_yes x c is in (omega arith, marks x ∙ ap (mark_in s.words) (sym is) ∙ f.0);
               takes = λ x e. let b = m.takes x e in (marks x ∙ b.0, b.1);
               had = λ x h. let b = m.had x h in let y = marks x in (omega arith, b.1);
+              done = λ x h free'. marks x ∙ m.done x h free';
               spent = λ e. absurd (omega arith);
               ended = λ e. absurd (true≢false (sym e ∙ open_));
               marked = λ x h apart. dite (ℕ_discrete c x) (λ e. absurd (apart (ap Some e))) (λ ne. let z = same_no x c ne in omega (arith, marks x, m.marked x (omega arith) (λ e. let bad : None ≡ Some x = sym free ∙ e in cc)));
             })
-            (λ j u ne e. stays plan n c (get_or ws 0 0) (mark_in s.words) (mark_in ws) u (r.each j u e) (omega arith) (λ x h. marks x) (λ x h. marks x) (λ x low'. omega (arith, marks x)));
+            (λ j u ne e. stays plan n c (get_or ws 0 0) (mark_in s.words) (mark_in ws) u (r.each j u e) (omega arith) (λ x h. marks x) (λ x h. marks x) (λ x low'. omega (arith, marks x)) (λ x low' e. marks x ∙ e));
         once = λ x. let t = total-set (drawings x) s.views id v w at in let b = r.once x in
             dite (ℕ_discrete c x) (λ e. let z = same_yes x c e in let y : total (drawings x) s.views ≡ 0 = subst (λ k. total (drawings k) s.views ≡ 0) e nobody in omega arith) (λ ne. let z = same_no x c ne in omega arith);
         within = let t = total_same going s.views id v w at refl in let b = r.within in omega arith;
         halt_bit = omega (arith, r.halt_bit);
         halt_called = λ e. let t = total_same calls s.views id v w at refl in let b = r.halt_called (sym one ∙ e) in omega arith;
+        halt_set = λ e. let t = total_same calls s.views id v w at refl in one ∙ r.halt_set (omega arith);
         halted_called = let t = total_same calls s.views id v w at refl in put s.views id w (λ j u. u.halted ≡ true → 0 < total calls (set s.views id w)) (λ h. let b = r.halted_called id v at h in omega arith)
             (λ j u ne e h. let b = r.halted_called j u e h in omega arith);
         fresh = λ x up low'. let g = r.fresh x (omega arith) low' in (marks x ∙ g.0, set_else s.homes c x none (λ e. omega arith) ∙ g.1);
@@ -160,15 +169,17 @@ module _ {T P : Type 0} (fits : P → ℕ → T → Type 0) (plan : P) (n : ℕ)
               holds = λ x e. let bad : None ≡ Some x = sym free ∙ e in absurd (cc);
               takes = λ x e. let b = m.takes x e in (marks x ∙ b.0, b.1);
               had = λ x h. let b = m.had x h in let y = marks x in (omega arith, b.1);
+              done = λ x h free'. marks x ∙ m.done x h free';
               spent = λ e. absurd (omega arith);
               ended = λ e. (omega arith, free);
               marked = λ x h apart. omega (arith, marks x, m.marked x h apart);
             })
-            (λ j u ne e. stays plan n c (get_or ws 0 0) (mark_in s.words) (mark_in ws) u (r.each j u e) (omega arith) (λ x h. marks x) (λ x h. marks x) (λ x low'. omega (arith, marks x)));
+            (λ j u ne e. stays plan n c (get_or ws 0 0) (mark_in s.words) (mark_in ws) u (r.each j u e) (omega arith) (λ x h. marks x) (λ x h. marks x) (λ x low'. omega (arith, marks x)) (λ x low' e. marks x ∙ e));
         once = λ x. omega (arith, total_same (drawings x) s.views id v w at refl, r.once x);
         within = let t = total-set going s.views id v w at in let b = r.within in omega arith;
         halt_bit = omega (arith, r.halt_bit);
         halt_called = λ e. let t = total_same calls s.views id v w at refl in let b = r.halt_called (sym one ∙ e) in omega arith;
+        halt_set = λ e. let t = total_same calls s.views id v w at refl in one ∙ r.halt_set (omega arith);
         halted_called = let t = total_same calls s.views id v w at refl in put s.views id w (λ j u. u.halted ≡ true → 0 < total calls (set s.views id w)) (λ h. let b = r.halted_called id v at h in omega arith)
             (λ j u ne e h. let b = r.halted_called j u e h in omega arith);
         fresh = λ x up low'. absurd (omega arith);
@@ -218,7 +229,7 @@ module _ {T P : Type 0} (fits : P → ℕ → T → Type 0) (plan : P) (n : ℕ)
         tt,
         subst (λ k. H (at_words (set s.words 1 k) s.homes (set s.views id w))) (sym new)
             (flagged s r id v ws v.halted true v.missed at has (length-set s.words 1 1) (get_or-set_other s.words 1 0 1 0 (λ e. omega arith)) (λ c low. marks_after_low s.words 1 1 (omega arith) c) (omega arith)
-            (omega arith) (bit_top v.called) (λ _. enough) (λ _. enough)),
+            (omega arith) (bit_top v.called) (λ _. enough) (λ _. here) (λ _. enough)),
         refl,
       )
     where

@@ -12,7 +12,7 @@ use Rattle.lb_board.specs.Steps.{learned}
 use Rattle.lb_board.specs.Totals.{bit, same, total}
 use Rattle.lb_board.specs.Views.{allowed, both, calls, drawings, first_view, going, left_half, right_half, spent_view, takings}
 use Rattle.lb_board.proofs.Sums.{total-append, total-set, term_le, terms_le, total_only}
-use Rattle.lb_board.proofs.Parts.{put, bit_either, either_true, going_join, going_split, Apart, takers_same}
+use Rattle.lb_board.proofs.Parts.{put, bit_either, either_bit, either_true, going_join, going_split, Apart, takers_same}
 
 blank : {A : Type 0} (n i : ℕ) (a : A) → i < n → get_elem? (map some (replicate n a)) i ≡ some (some a)
 blank zero i a near = absurd (omega arith)
@@ -71,6 +71,7 @@ module _ {T P : Type 0} (fits : P → ℕ → T → Type 0) (plan : P) (n : ℕ)
         ended = λ e. absurd (cc);
         marked = λ c h apart. absurd (omega arith);
         had = λ c h. absurd (omega arith);
+        done = λ c h free. absurd (omega arith);
       } in record {
         wide = ap length is ∙ length-replicate (n + 2) 0;
         each = λ i v e. subst (λ u. Sits plan n (get_or ws 0 0) (mark_in ws) u) (lone first v i e) fact;
@@ -78,6 +79,7 @@ module _ {T P : Type 0} (fits : P → ℕ → T → Type 0) (plan : P) (n : ℕ)
         within = let z = nil 0 in omega arith;
         halt_bit = omega (arith, nil 1);
         halt_called = λ e. absurd (omega (arith, nil 1));
+        halt_set = λ e. absurd (omega arith);
         halted_called = λ i v e h. let bad : false ≡ true = ap (λ u. u.halted) (lone first v i e) ∙ h in absurd (cc);
         fresh = λ c up low. (nil (c + 2), blank n c None low);
         ready = λ c low e. absurd (omega (arith, nil (c + 2)));
@@ -96,7 +98,7 @@ module _ {T P : Type 0} (fits : P → ℕ → T → Type 0) (plan : P) (n : ℕ)
       record {
         wide = r.wide;
         each = put_snoc s.views id w x (λ j u. Sits plan n d (mark_in s.words) u)
-            (record { planned = m.planned; below = m.below; holds = m.holds; takes = m.takes; spent = λ e. absurd (omega arith); ended = m.ended; marked = m.marked; had = m.had })
+            (record { planned = m.planned; below = m.below; holds = m.holds; takes = m.takes; spent = λ e. absurd (omega arith); ended = m.ended; marked = m.marked; had = m.had; done = m.done })
             (λ j. record {
               planned = m.planned;
               below = λ c h. absurd (omega arith);
@@ -106,6 +108,7 @@ module _ {T P : Type 0} (fits : P → ℕ → T → Type 0) (plan : P) (n : ℕ)
               ended = λ e. ((m.ended e).0, refl);
               marked = λ c h apart. absurd (omega arith);
               had = λ c h. absurd (omega arith);
+              done = λ c h free. absurd (omega arith);
             })
             (λ j u ne e. r.each j u e);
         once = λ c. omega (arith, total-append (drawings c) vs (x ∷ []), total-set (drawings c) s.views id v w at, r.once c);
@@ -113,6 +116,7 @@ module _ {T P : Type 0} (fits : P → ℕ → T → Type 0) (plan : P) (n : ℕ)
             let z = going_split v.no_more v.halted (v.allowance - v.allowance / 2) (v.allowance / 2) v.allowance (omega arith) in omega arith;
         halt_bit = r.halt_bit;
         halt_called = λ e. let b = r.halt_called e in omega arith;
+        halt_set = λ e. r.halt_set (omega arith);
         halted_called = put_snoc s.views id w x (λ j u. u.halted ≡ true → 0 < total calls (vs ++ x ∷ [])) (λ e. let b = r.halted_called id v at e in omega arith) (λ j e. let b = r.halted_called id v at e in omega arith)
             (λ j u ne q e. let b = r.halted_called j u q e in omega arith);
         fresh = r.fresh;
@@ -146,6 +150,7 @@ module _ {T P : Type 0} (fits : P → ℕ → T → Type 0) (plan : P) (n : ℕ)
               ended = λ e. absurd (cc);
               marked = λ c h no_one. absurd (omega arith);
               had = λ c h. absurd (omega arith);
+              done = λ c h free. absurd (omega arith);
             })
             (λ j u ne e. put s.views id b (λ j' u'. Sits plan n d (mark_in s.words) u')
             (record {
@@ -158,6 +163,8 @@ module _ {T P : Type 0} (fits : P → ℕ → T → Type 0) (plan : P) (n : ℕ)
               marked = λ c h no_one. let x = total-append (same c) v.drawn w.drawn in by_parts (drawings c v) (drawings c w) (1 ≤ mark_in s.words c) (omega arith) (λ y. m.marked c y no_one)
                   (λ y. o.marked c y (λ z. let bad : None ≡ Some c = sym w_free ∙ z in cc));
               had = λ c h. let x = total-append (same c) v.taken w.taken in by_parts (takings c v) (takings c w) ((1 < mark_in s.words c) × (c < n)) (omega arith) (m.had c) (o.had c);
+              done = λ c h free. let x = total-append (same c) v.taken w.taken in by_parts (takings c v) (takings c w) (mark_in s.words c ≡ 3) (omega arith) (λ y. m.done c y free)
+                  (λ y. o.done c y (λ z. let bad : None ≡ Some c = sym w_idle ∙ z in cc));
             })
             (λ j' u' ne' e'. r.each j' u' e') j u e);
         once = λ c. omega (arith, sums c, r.once c);
@@ -165,6 +172,7 @@ module _ {T P : Type 0} (fits : P → ℕ → T → Type 0) (plan : P) (n : ℕ)
             let parts' = terms_le going s.views id other v w apart at there' in omega arith;
         halt_bit = r.halt_bit;
         halt_called = λ e. called (r.halt_called e);
+        halt_set = let top = either_bit v.called w.called in λ e. r.halt_set (omega arith);
         halted_called = put vs other sp (λ j u. u.halted ≡ true → 0 < total calls vs') (λ e. absurd (cc))
             (λ j u ne q. put s.views id b (λ j' u'. u'.halted ≡ true → 0 < total calls vs')
             (λ e. called (either_true v.halted w.halted (0 < total calls s.views) (λ y. r.halted_called id v at y) (λ y. r.halted_called other w there' y) e))

@@ -30,15 +30,15 @@ module _ {T P : Type 0} (fits : P → ℕ → T → Type 0) (plan : P) (n : ℕ)
 
   -- the mark of a drawn chapter changes, and its slot, and of the view what it holds, is taking and has taken
   marked_step : (s : St) (r : H s) (id : ℕ) (v : View P) (c x : ℕ) (home : maybe.Option (Option T)) (h t : Option ℕ) (l : List ℕ) → get_elem? s.views id ≡ some v → 0 < v.allowance
-      → c < n → 0 < x → mark_in s.words c ≤ x → 0 < mark_in s.words c + drawings c v → length s.homes ≡ n
+      → c < n → 0 < x → mark_in s.words c ≤ x → mark_in s.words c < 3 → 0 < mark_in s.words c + drawings c v → length s.homes ≡ n
       → ((d : ℕ) → h ≡ Some d → (v.held ≡ Some d) × (d ≢ c)) → ((d : ℕ) → d ≢ c → v.held ≡ Some d → h ≡ Some d) → (v.no_more ≡ true → h ≡ None)
       → ((d : ℕ) → t ≡ Some d → ((v.taking ≡ Some d) × (d ≢ c)) ⊎ ((d ≡ c) × (x ≡ 2)))
       → ((j : ℕ) (u : View P) → j ≢ id → get_elem? s.views j ≡ some u → (u.held ≢ Some c) × (u.taking ≢ Some c))
       → (x ≡ 1 → (y : T) × (home ≡ some (Some y)) × fits plan c y)
-      → ((d : ℕ) → d ≢ c → times d l ≡ times d v.taken) → (0 < times c l → 1 < x) → (1 < x → 0 < total (takings c) (set s.views id (record v { held = h; taking = t; taken = l })))
+      → ((d : ℕ) → d ≢ c → times d l ≡ times d v.taken) → (0 < times c l → (1 < x) × (t ≢ Some c → x ≡ 3)) → ((d : ℕ) → d ≢ c → v.taking ≡ Some d → t ≡ Some d) → (1 < x → 0 < total (takings c) (set s.views id (record v { held = h; taking = t; taken = l })))
       → total (takings c) (set s.views id (record v { held = h; taking = t; taken = l })) ≤ 1
       → H (at_words (set s.words (c + 2) x) (set s.homes c home) (set s.views id (record v { held = h; taking = t; taken = l })))
-  marked_step s r id v c x home h t l at has low pos up met long held_old held_new held_ended taking_new others full same_taken first now one =
+  marked_step s r id v c x home h t l at has low pos up under met long held_old held_new held_ended taking_new others full same_taken first kept now one =
       let w : View P = record v { held = h; taking = t; taken = l } in let ws : List ℕ = set s.words (c + 2) x in
       let d : ℕ = get_or s.words 0 0 in
       let m = r.each id v at in
@@ -60,16 +60,20 @@ module _ {T P : Type 0} (fits : P → ℕ → T → Type 0) (plan : P) (n : ℕ)
               spent = λ e. absurd (omega arith);
               ended = λ e. let b = m.ended e in (omega arith, held_ended e);
               marked = λ k e apart. dite (ℕ_discrete k c) (λ is. let y = ap (mark_in ws) is in omega arith) (λ ne. let y = else_ k ne in let z = m.marked k e (λ q. apart (held_new k ne q)) in omega arith);
-              had = λ k e. dite (ℕ_discrete k c) (λ is. (let y = ap (mark_in ws) is in let z = first (subst (λ q. 0 < times q l) is e) in omega arith, omega arith))
+              had = λ k e. dite (ℕ_discrete k c) (λ is. (let y = ap (mark_in ws) is in let z = (first (subst (λ q. 0 < times q l) is e)).0 in omega arith, omega arith))
                   (λ ne. let b = m.had k (omega (arith, same_taken k ne)) in let y = else_ k ne in (omega arith, b.1));
+              done = λ k e free. dite (ℕ_discrete k c) (λ is. ap (mark_in ws) is ∙ here ∙ (first (subst (λ q. 0 < times q l) is e)).1 (λ q. free (q ∙ ap Some (sym is))))
+                  (λ ne. else_ k ne ∙ m.done k (omega (arith, same_taken k ne)) (λ q. free (kept k ne q)));
             })
             (λ j u ne e. let o = others j u ne e in let q = r.each j u e in
             stays plan n d (get_or ws 0 0) (mark_in s.words) (mark_in ws) u q (omega arith) (λ k y. else_ k (λ is. o.0 (subst (λ z. u.held ≡ Some z) is y))) (λ k y. else_ k (λ is. o.1 (subst (λ z. u.taking ≡ Some z) is y)))
-            (λ k low'. dite (ℕ_discrete k c) (λ is. let z = ap (mark_in ws) is in let y = ap (mark_in s.words) is in omega arith) (λ ne'. omega (arith, else_ k ne'))));
+            (λ k low'. dite (ℕ_discrete k c) (λ is. let z = ap (mark_in ws) is in let y = ap (mark_in s.words) is in omega arith) (λ ne'. omega (arith, else_ k ne')))
+            (λ k low' e3. dite (ℕ_discrete k c) (λ is. let z = ap (mark_in s.words) is in absurd (omega arith)) (λ ne'. else_ k ne' ∙ e3)));
         once = λ k. omega (arith, total_same (drawings k) s.views id v w at refl, r.once k);
         within = let b = r.within in omega arith;
         halt_bit = omega (arith, r.halt_bit);
         halt_called = λ e. let b = r.halt_called (sym one_same ∙ e) in omega arith;
+        halt_set = λ e. one_same ∙ r.halt_set (omega arith);
         halted_called = put s.views id w (λ j u. u.halted ≡ true → 0 < total calls (set s.views id w)) (λ e. let b = r.halted_called id v at e in omega arith) (λ j u ne e q. let b = r.halted_called j u e q in omega arith);
         fresh = λ k over low'. let f = r.fresh k (omega arith) low' in let ne : k ≢ c = λ e. omega arith in (else_ k ne ∙ f.0, set_else s.homes c k home ne ∙ f.1);
         ready = λ k low' is. dite (ℕ_discrete k c)
@@ -91,13 +95,13 @@ module _ {T P : Type 0} (fits : P → ℕ → T → Type 0) (plan : P) (n : ℕ)
         with_posted v,
         gives,
         tt,
-        marked_step s r id v c 1 (some (Some y)) None v.taking v.taken at has low (omega arith) (omega arith) (omega arith) (long ∙ is) (λ d e. absurd (cc)) (λ d ne e. let same_d : c ≡ d = cc in absurd (ne (sym same_d))) (λ e. refl)
+        marked_step s r id v c 1 (some (Some y)) None v.taking v.taken at has low (omega arith) (omega arith) (omega arith) (omega arith) (long ∙ is) (λ d e. absurd (cc)) (λ d ne e. let same_d : c ≡ d = cc in absurd (ne (sym same_d))) (λ e. refl)
             (λ d e. inl (e, λ q. let b = m.takes d e in let b₀ = b.0 in let z = ap (mark_in s.words) q in absurd (omega arith)))
             (λ j u ne e. (
               (λ q. let b = (r.each j u e).holds c q in let b₀ = b.0 in let o = r.once c in let two = terms_le (drawings c) s.views id j v u ne at e in absurd (omega arith)),
               (λ q. let b = (r.each j u e).takes c q in let b₀ = b.0 in absurd (omega arith)),
             ))
-            (λ _. (y, refl, fit)) (λ d ne. refl) (λ e. let b = (m.had c e).0 in absurd (omega arith)) (λ bad. absurd (omega arith)) (let z = total_same (takings c) s.views id v (with_posted v) at refl in let b = r.taken_once c in omega arith),
+            (λ _. (y, refl, fit)) (λ d ne. refl) (λ e. let b = (m.had c e).0 in absurd (omega arith)) (λ d ne e. e) (λ bad. absurd (omega arith)) (let z = total_same (takings c) s.views id v (with_posted v) at refl in let b = r.taken_once c in omega arith),
         refl,
       )
 
@@ -112,11 +116,11 @@ module _ {T P : Type 0} (fits : P → ℕ → T → Type 0) (plan : P) (n : ℕ)
         w,
         gives,
         tt,
-        marked_step s r id v c 3 (some None) v.held None v.taken at has low (omega arith) (omega arith) (omega arith) (long ∙ is)
+        marked_step s r id v c 3 (some None) v.held None v.taken at has low (omega arith) (omega arith) (omega arith) (omega arith) (long ∙ is)
             (λ d e. (e, λ q. let b = (m.holds d e).1 in let z = ap (mark_in s.words) q in absurd (omega arith))) (λ d ne e. e) (λ e. (m.ended e).1)
             (λ d e. absurd (cc))
             (λ j u ne e. ((λ q. let b = ((r.each j u e).holds c q).1 in absurd (omega arith)), (λ q. ne (r.one_taker j id u v c e at q taking))))
-            (λ bad. absurd (omega arith)) (λ d ne. refl) (λ _. omega arith) (λ _. let z = total_same (takings c) s.views id v w at refl in let b = r.taken c low (omega arith) in omega arith)
+            (λ bad. absurd (omega arith)) (λ d ne. refl) (λ _. (omega arith, λ _. refl)) (λ d ne e. let same_d : c ≡ d = cc in absurd (ne (sym same_d))) (λ _. let z = total_same (takings c) s.views id v w at refl in let b = r.taken c low (omega arith) in omega arith)
             (let z = total_same (takings c) s.views id v w at refl in let b = r.taken_once c in omega arith),
         refl,
       )
@@ -142,20 +146,20 @@ module _ {T P : Type 0} (fits : P → ℕ → T → Type 0) (plan : P) (n : ℕ)
   nobody : (s : St) (r : H s) (c : ℕ) → mark_in s.words c ≡ 1 → total (takings c) s.views ≡ 0
   nobody s r c posted_ = total_zero (takings c) s.views (λ j u e. dite (ℕ_discrete (takings c u) 0) (λ z. z) (λ z. let b = ((r.each j u e).had c (omega arith)).0 in absurd (omega arith)))
 
-  pub takes_one : (slots id : ℕ) (m : Me (Option T) (View P)) (c : ℕ) → slots ≡ n → c < n → 0 < m.0.allowance
+  pub takes_one : (slots id : ℕ) (m : Me (Option T) (View P)) (c : ℕ) → slots ≡ n → c < n → 0 < m.0.allowance → m.0.taking ≡ None
       → Allows H slots id m (c + 2) (λ x. either (eqb x 1) 2 x) (took fits plan (step slots (c + 2) 1 2 none) m)
-  takes_one slots id m c is low has s r long at fits64 =
+  takes_one slots id m c is low has free s r long at fits64 =
       let v : View P = m.0 in let x : ℕ = mark_in s.words c in let e : c ≡ (c + 2) - 2 = omega arith in
       exchanged x 1 2 (λ k. (w : View P) × (a : Rattle.atomic_table.specs.Table.Act (Option T)) × Valid s.homes m.1 a × H (stepped s (c + 2) k id m.1 w a) × took fits plan (step slots (c + 2) 1 2 none) m x (w, carried_after m.1 a))
       (λ hit. let f = r.ready c low hit in let w : View P = with_taking c v in let q = r.each id v at in (
         w,
         takes c (Some f.0),
         f.1,
-        marked_step s r id v c 2 none v.held (Some c) (c ∷ v.taken) at has low (omega arith) (omega arith) (omega arith) (long ∙ is)
+        marked_step s r id v c 2 none v.held (Some c) (c ∷ v.taken) at has low (omega arith) (omega arith) (omega arith) (omega arith) (long ∙ is)
             (λ d e. (e, λ z. let b = (q.holds d e).1 in let y = ap (mark_in s.words) z in absurd (omega arith))) (λ d ne e. e) (λ e. (q.ended e).1)
             (λ d e. let same_d : c ≡ d = cc in inr (sym same_d, refl))
             (λ j u ne e. ((λ z. let b = ((r.each j u e).holds c z).1 in absurd (omega arith)), (λ z. let b = ((r.each j u e).takes c z).0 in absurd (omega arith))))
-            (λ bad. absurd (omega arith)) (λ d ne. let y = same_no d c (λ z. ne (sym z)) in omega arith) (λ _. omega arith)
+            (λ bad. absurd (omega arith)) (λ d ne. let y = same_no d c (λ z. ne (sym z)) in omega arith) (λ _. (omega arith, λ ne. absurd (ne refl))) (λ d ne e. let bad : None ≡ Some d = sym free ∙ e in absurd (cc))
             (λ _. let z = total-set (takings c) s.views id v w at in let y = same_yes c c refl in omega arith)
             (let z = total-set (takings c) s.views id v w at in let y = same_yes c c refl in let b = nobody s r c hit in omega arith),
         (

@@ -51,9 +51,9 @@ going_split false false x y z e = e
 module _ {P : Type 0} (plan : P) (n : ℕ) where
   -- a view that no step touched
   pub stays : (d d' : ℕ) (mark mark' : ℕ → ℕ) (u : View P) → Sits plan n d mark u → d ≤ d'
-      → ((c : ℕ) → u.held ≡ Some c → mark' c ≡ mark c) → ((c : ℕ) → u.taking ≡ Some c → mark' c ≡ mark c) → ((c : ℕ) → c < n → mark c ≤ mark' c)
+      → ((c : ℕ) → u.held ≡ Some c → mark' c ≡ mark c) → ((c : ℕ) → u.taking ≡ Some c → mark' c ≡ mark c) → ((c : ℕ) → c < n → mark c ≤ mark' c) → ((c : ℕ) → c < n → mark c ≡ 3 → mark' c ≡ 3)
       → Sits plan n d' mark' u
-  stays d d' mark mark' u s up held taking above = record {
+  stays d d' mark mark' u s up held taking above last = record {
     planned = s.planned;
     below = λ c h. let b = s.below c h in (omega arith, b.1);
     holds = λ c e. let h = s.holds c e in (h.0, held c e ∙ h.1);
@@ -62,6 +62,7 @@ module _ {P : Type 0} (plan : P) (n : ℕ) where
     ended = λ e. let h = s.ended e in (omega arith, h.1);
     marked = λ c h apart. omega (arith, above c (s.below c h).1, s.marked c h apart);
     had = λ c h. let b = s.had c h in let a = above c b.1 in (omega arith, b.1);
+    done = λ c h free. last c (s.had c h).1 (s.done c h free);
   }
 
 -- one view at most is taking a chapter

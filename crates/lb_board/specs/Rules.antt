@@ -27,8 +27,9 @@ pub record Sits {P : Type 0} (plan : P) (n draws : ℕ) (mark : ℕ → ℕ) (v 
   pub ended : v.no_more ≡ true → (n ≤ draws) × (v.held ≡ None)
   -- what it drew it posted, or holds
   pub marked : (c : ℕ) → 0 < drawings c v → v.held ≢ Some c → 1 ≤ mark c
-  -- what it took is not posted any more
+  -- what it took is not posted any more, and is marked as taken once the seat is done with it
   pub had : (c : ℕ) → 0 < takings c v → (1 < mark c) × (c < n)
+  pub done : (c : ℕ) → 0 < takings c v → v.taking ≢ Some c → mark c ≡ 3
 
 abbrev pub mark_in : List ℕ → ℕ → ℕ
 mark_in words c = slice_index words (c + 2)
@@ -44,9 +45,10 @@ pub record Rules {T P : Type 0} (fits : P → ℕ → T → Type 0) (plan : P) (
   pub once : (c : ℕ) → total (drawings c) s.views ≤ 1
   -- the draw word passes n by no more than the seats that may not draw any more have of the whole
   pub within : max (slice_index s.words 0) n + total going s.views ≤ n + 65536
-  -- the board is halted, or found halted, only where a seat halted it
+  -- the board is halted exactly where a seat halted it, and found halted only there
   pub halt_bit : slice_index s.words 1 ≤ 1
   pub halt_called : slice_index s.words 1 ≡ 1 → 0 < total calls s.views
+  pub halt_set : 0 < total calls s.views → slice_index s.words 1 ≡ 1
   pub halted_called : (i : ℕ) (v : View P) → get_elem? s.views i ≡ some v → v.halted ≡ true → 0 < total calls s.views
   -- a chapter that is still to be drawn is not posted, and its slot is at home and empty
   pub fresh : (c : ℕ) → slice_index s.words 0 ≤ c → c < n → (mark_in s.words c ≡ 0) × (get_elem? s.homes c ≡ some (some None))

@@ -1,5 +1,5 @@
 -- What clauses say of a board, of its seats and of a draw.
-use Rattle.std.specs.Prelude.{◌≡◌, ℕ, ◌<◌, List, [], ◌∷◌, Option, Some, None, IfSome}
+use Rattle.std.specs.Prelude.{◌≡◌, ℕ, ◌<◌, false, List, [], ◌∷◌, Option, Some, None, IfSome}
 use Rattle.lb_board.specs.declared.view.View.{View}
 use Rattle.lb_board.specs.declared.board.Board.{Board}
 use Rattle.lb_board.specs.declared.board.BoardSeat.{BoardSeat}
@@ -32,8 +32,8 @@ module _ {T P : Type 0} where
 
 module _ {P : Type 0} where
   -- what a draw gives, over so many chapters, and what the seat knows after it: a chapter has its ticket, and is above all that the seat drew
-  -- before
+  -- before; a seat that halted the board has Halted
   abbrev pub Draws : ℕ → View P → Drawn → View P → Type 0
-  Draws n v (Chapter c t) w = (c < n) × (t.piece ≡ c) × ((x : ℕ) → 0 < times x v.drawn → x < c) × (w ≡ with_drawn c v)
-  Draws n v NoMore w = w ≡ with_no_more v
+  Draws n v (Chapter c t) w = (c < n) × (t.piece ≡ c) × ((x : ℕ) → 0 < times x v.drawn → x < c) × (w ≡ with_drawn c v) × (v.called ≡ false)
+  Draws n v NoMore w = (w ≡ with_no_more v) × (v.called ≡ false)
   Draws n v Halted w = w ≡ with_halted v

@@ -1,5 +1,5 @@
 -- What each kind of step tells: of the step, the seat before, the number found and the seat after.
-use Rattle.std.specs.Prelude.{◌≡◌, ◌≢◌, ℕ, ◌-◌, ◌<◌, ◌≤◌, true, ◌∷◌, Option, Some, None}
+use Rattle.std.specs.Prelude.{◌≡◌, ◌≢◌, ℕ, ◌-◌, ◌<◌, ◌≤◌, true, false, ◌∷◌, Option, Some, None}
 use Rattle.atomic_table.specs.Table.{Me, Step, rest}
 use Rattle.lb_board.specs.declared.view.View.{View}
 use Rattle.lb_board.specs.Totals.{times}
@@ -10,9 +10,9 @@ abbrev pub Sat : Type 0 → Type 0 → Type 0
 Sat T P = Me (Option T) (View P)
 
 module _ {T P : Type 0} where
-  -- a load of the halt word
+  -- a load of the halt word: a seat that halted the board finds it set
   abbrev pub saw_halt : Step (Option T) → Sat T P → ℕ → Sat T P → Type 0
-  saw_halt st m r m' = (r ≡ 1 → m' ≡ (with_halted m.0, m.1)) × (r ≢ 1 → m' ≡ m)
+  saw_halt st m r m' = (r ≡ 1 → m' ≡ (with_halted m.0, m.1)) × (r ≢ 1 → (m' ≡ m) × (m.0.called ≡ false))
 
   -- an add to the draw word: a number is above all that the seat drew before
   abbrev pub drew : Step (Option T) → Sat T P → ℕ → Sat T P → Type 0

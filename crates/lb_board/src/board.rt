@@ -57,8 +57,8 @@ impl<T: Fits<P>, P: Planned + Drop> Board<T, P> {
     }
 
     /// Draws the next chapter: no other draw, of any seat, gives its number. `Halted` comes only where the halt word was loaded and found set,
-    /// and `NoMore` exactly where it was not and the draw word was at least the number of chapters. The seat must hold no chapter, and have
-    /// had neither of the two. Takes no memory.
+    /// and always to a seat that halted the board; `NoMore` comes exactly where it was not and the draw word was at least the number of
+    /// chapters. The seat must hold no chapter, and have had neither of the two. Takes no memory.
     pub fn draw(&self, seat: &mut BoardSeat<T, P>) -> Drawn
         requires board { IsSeatOf self.now seat.old }
         requires idle { (seat_view seat.old).held ≡ None }
@@ -124,7 +124,8 @@ impl<T: Fits<P>, P: Planned + Drop> Board<T, P> {
         }
     }
 
-    /// Halts the board: a draw that finds the halt word set gives `Halted`. Takes no memory.
+    /// Halts the board: each later draw of this seat gives `Halted`, and so does one of another seat that finds the halt word set. Takes no
+    /// memory.
     pub fn halt(&self, seat: &mut BoardSeat<T, P>)
         requires board { IsSeatOf self.now seat.old }
         ensures board { IsSeatOf self.now seat.new }

@@ -8,7 +8,7 @@ load-requires g c = (search rules, search rules, sees_halt _ _ _ _ _ c.args.seat
 pub fetch_add-found-requires : goal.fetch_add-found-requires
 fetch_add-found-requires g c =
     let sized = c.args.self.now.sized in
-    let same = c.load.ensures.2.1 c.if-load-eq1.false in
+    let same = (c.load.ensures.2.1 c.if-load-eq1.false).0 in
     let ready = c.requires in (
       search rules,
       search rules,

@@ -4,7 +4,7 @@ use Rattle.lb_board.proofs.Marks.{takes_one, empties}
 use Rattle.lb_board.proofs.board.Board.take.Goals as goal
 
 pub compare_exchange-requires : goal.compare_exchange-requires
-compare_exchange-requires g c = let sized = c.args.self.now.sized in let low = c.requires.within in (search rules, omega arith, takes_one _ _ _ _ _ c.args.seat.now.seat.me c.args.chapter (sized.1 ∙ sym sized.2) (omega arith) (search rules))
+compare_exchange-requires g c = let sized = c.args.self.now.sized in let low = c.requires.within in (search rules, omega arith, takes_one _ _ _ _ _ c.args.seat.now.seat.me c.args.chapter (sized.1 ∙ sym sized.2) (omega arith) (search rules) c.requires.board.taking)
 
 pub exchange-posted-requires : goal.exchange-posted-requires
 exchange-posted-requires g c =
