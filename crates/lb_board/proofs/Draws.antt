@@ -10,7 +10,7 @@ use lib.Seq.{set-get_or}
 use Rattle.atomic_table.specs.Table.{State, Me, step, keeps, takes, Allows}
 use Rattle.atomic_table.proofs.Lists.{set_else}
 use Rattle.lb_board.specs.declared.view.View.{View}
-use Rattle.lb_board.specs.Rules.{Rules, Sits, mark_in}
+use Rattle.lb_board.specs.Rules.{Rules, ViewRules, mark_in}
 use Rattle.lb_board.specs.Steps.{called, drew, saw_halt}
 use Rattle.lb_board.specs.Totals.{bit, total}
 use Rattle.lb_board.specs.Views.{allowed, calls, drawings, going, takings, with_called, with_drawn, with_halted, with_no_more}
@@ -45,7 +45,7 @@ module _ {T P : Type 0} (fits : P → ℕ → T → Type 0) (plan : P) (n : ℕ)
       let d : ℕ = get_or s.words 0 0 in let d' : ℕ = get_or ws 0 0 in
       record {
         wide = long ∙ r.wide;
-        each = put s.views id w (λ j u. Sits plan n d' (mark_in ws) u)
+        each = put s.views id w (λ j u. ViewRules plan n d' (mark_in ws) u)
             (let m = r.each id v at in record {
               planned = m.planned;
               below = λ c h. let b = m.below c h in (omega arith, b.1);
@@ -117,7 +117,7 @@ module _ {T P : Type 0} (fits : P → ℕ → T → Type 0) (plan : P) (n : ℕ)
       let m = r.each id v at in
       record {
         wide = length-set s.words 0 (c + 1) ∙ r.wide;
-        each = put s.views id w (λ j u. Sits plan n (get_or ws 0 0) (mark_in ws) u)
+        each = put s.views id w (λ j u. ViewRules plan n (get_or ws 0 0) (mark_in ws) u)
             (record {
               planned = m.planned;
               below = λ x h. dite (ℕ_discrete c x) (λ e. (omega arith, omega arith)) (λ ne. let z = same_no x c ne in let b = m.below x (omega arith) in (omega arith, b.1));
@@ -162,7 +162,7 @@ module _ {T P : Type 0} (fits : P → ℕ → T → Type 0) (plan : P) (n : ℕ)
       let goes : going v ≡ v.allowance = ap (λ b. cond b 0 (cond v.halted 0 v.allowance)) open_ ∙ ap (λ b. cond b 0 v.allowance) runs in
       record {
         wide = length-set s.words 0 (c + 1) ∙ r.wide;
-        each = put s.views id w (λ j u. Sits plan n (get_or ws 0 0) (mark_in ws) u)
+        each = put s.views id w (λ j u. ViewRules plan n (get_or ws 0 0) (mark_in ws) u)
             (record {
               planned = m.planned;
               below = λ x h. let b = m.below x h in (omega arith, b.1);

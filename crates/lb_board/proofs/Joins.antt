@@ -7,7 +7,7 @@ use lib.Seq.{set-get_or}
 use Rattle.atomic_table.specs.Table.{State, Me, step, keeps, Allows, Splits, Joins, opening}
 use Rattle.atomic_table.proofs.Lists.{at_snoc, set_else, set_again}
 use Rattle.lb_board.specs.declared.view.View.{View}
-use Rattle.lb_board.specs.Rules.{Rules, Sits, mark_in}
+use Rattle.lb_board.specs.Rules.{Rules, ViewRules, mark_in}
 use Rattle.lb_board.specs.Steps.{learned}
 use Rattle.lb_board.specs.Totals.{bit, same, total}
 use Rattle.lb_board.specs.Views.{allowed, both, calls, drawings, first_view, going, left_half, right_half, spent_view, takings}
@@ -62,7 +62,7 @@ module _ {T P : Type 0} (fits : P → ℕ → T → Type 0) (plan : P) (n : ℕ)
   opens ws is =
       let nil : (i : ℕ) → get_or ws i 0 ≡ 0 = λ i. ap (λ l. get_or l i 0) is ∙ zeros (n + 2) i 0 in
       let first : View P = first_view plan in
-      let fact : Sits plan n (get_or ws 0 0) (mark_in ws) first = record {
+      let fact : ViewRules plan n (get_or ws 0 0) (mark_in ws) first = record {
         planned = refl;
         below = λ c h. absurd (omega arith);
         holds = λ c e. absurd (cc);
@@ -74,7 +74,7 @@ module _ {T P : Type 0} (fits : P → ℕ → T → Type 0) (plan : P) (n : ℕ)
         done = λ c h free. absurd (omega arith);
       } in record {
         wide = ap length is ∙ length-replicate (n + 2) 0;
-        each = λ i v e. subst (λ u. Sits plan n (get_or ws 0 0) (mark_in ws) u) (lone first v i e) fact;
+        each = λ i v e. subst (λ u. ViewRules plan n (get_or ws 0 0) (mark_in ws) u) (lone first v i e) fact;
         once = λ c. omega arith;
         within = let z = nil 0 in omega arith;
         halt_bit = omega (arith, nil 1);
@@ -97,7 +97,7 @@ module _ {T P : Type 0} (fits : P → ℕ → T → Type 0) (plan : P) (n : ℕ)
       let ends = total-append calls vs (x ∷ []) in let calls_now = total-set calls s.views id v w at in
       record {
         wide = r.wide;
-        each = put_snoc s.views id w x (λ j u. Sits plan n d (mark_in s.words) u)
+        each = put_snoc s.views id w x (λ j u. ViewRules plan n d (mark_in s.words) u)
             (record { planned = m.planned; below = m.below; holds = m.holds; takes = m.takes; spent = λ e. absurd (omega arith); ended = m.ended; marked = m.marked; had = m.had; done = m.done })
             (λ j. record {
               planned = m.planned;
@@ -140,7 +140,7 @@ module _ {T P : Type 0} (fits : P → ℕ → T → Type 0) (plan : P) (n : ℕ)
       let called : 0 < total calls s.views → 0 < total calls vs' = λ h. omega arith in
       record {
         wide = r.wide;
-        each = put vs other sp (λ j u. Sits plan n d (mark_in s.words) u)
+        each = put vs other sp (λ j u. ViewRules plan n d (mark_in s.words) u)
             (record {
               planned = refl;
               below = λ c h. absurd (omega arith);
@@ -152,7 +152,7 @@ module _ {T P : Type 0} (fits : P → ℕ → T → Type 0) (plan : P) (n : ℕ)
               had = λ c h. absurd (omega arith);
               done = λ c h free. absurd (omega arith);
             })
-            (λ j u ne e. put s.views id b (λ j' u'. Sits plan n d (mark_in s.words) u')
+            (λ j u ne e. put s.views id b (λ j' u'. ViewRules plan n d (mark_in s.words) u')
             (record {
               planned = m.planned;
               below = λ c h. let x = total-append (same c) v.drawn w.drawn in by_parts (drawings c v) (drawings c w) ((c < d) × (c < n)) (omega arith) (m.below c) (o.below c);

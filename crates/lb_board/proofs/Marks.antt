@@ -10,7 +10,7 @@ use prog.Atomic.{either}
 use Rattle.atomic_table.specs.Table.{State, Me, step, keeps, takes, gives, rest, put_back, Valid, stepped, carried_after, Allows}
 use Rattle.atomic_table.proofs.Lists.{set_here, set_else, exchanged}
 use Rattle.lb_board.specs.declared.view.View.{View}
-use Rattle.lb_board.specs.Rules.{Ready, Rules, Sits, mark_in}
+use Rattle.lb_board.specs.Rules.{Ready, Rules, ViewRules, mark_in}
 use Rattle.lb_board.specs.Steps.{emptied, posted, took}
 use Rattle.lb_board.specs.Totals.{times, total}
 use Rattle.lb_board.specs.Views.{IsLast, allowed, calls, drawings, going, spent_view, takings, with_missed, with_nothing, with_posted, with_taking}
@@ -51,7 +51,7 @@ module _ {T P : Type 0} (fits : P → ℕ → T → Type 0) (plan : P) (n : ℕ)
       let called = total_same calls s.views id v w at refl in
       record {
         wide = length-set s.words (c + 2) x ∙ r.wide;
-        each = put s.views id w (λ j u. Sits plan n (get_or ws 0 0) (mark_in ws) u)
+        each = put s.views id w (λ j u. ViewRules plan n (get_or ws 0 0) (mark_in ws) u)
             (record {
               planned = m.planned;
               below = λ k e. let b = m.below k e in (omega arith, b.1);

@@ -5,7 +5,7 @@ use mathlib.Core.Option.{some}
 use lib.ListN.{get_elem?}
 use Rattle.atomic_table.proofs.Lists.{at_set}
 use Rattle.lb_board.specs.declared.view.View.{View}
-use Rattle.lb_board.specs.Rules.{Sits, mark_in}
+use Rattle.lb_board.specs.Rules.{ViewRules, mark_in}
 use Rattle.lb_board.specs.Totals.{bit}
 
 -- what holds of each place after a write at one
@@ -50,9 +50,9 @@ going_split false false x y z e = e
 
 module _ {P : Type 0} (plan : P) (n : ℕ) where
   -- a view that no step touched
-  pub stays : (d d' : ℕ) (mark mark' : ℕ → ℕ) (u : View P) → Sits plan n d mark u → d ≤ d'
+  pub stays : (d d' : ℕ) (mark mark' : ℕ → ℕ) (u : View P) → ViewRules plan n d mark u → d ≤ d'
       → ((c : ℕ) → u.held ≡ Some c → mark' c ≡ mark c) → ((c : ℕ) → u.taking ≡ Some c → mark' c ≡ mark c) → ((c : ℕ) → c < n → mark c ≤ mark' c) → ((c : ℕ) → c < n → mark c ≡ 3 → mark' c ≡ 3)
-      → Sits plan n d' mark' u
+      → ViewRules plan n d' mark' u
   stays d d' mark mark' u s up held taking above last = record {
     planned = s.planned;
     below = λ c h. let b = s.below c h in (omega arith, b.1);

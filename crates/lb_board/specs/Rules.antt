@@ -13,7 +13,7 @@ use Rattle.lb_board.specs.Totals.{total}
 use Rattle.lb_board.specs.Views.{allowed, calls, drawings, going, spent_view, takings}
 
 -- what is so of one view, where the draw word and the marks are these
-pub record Sits {P : Type 0} (plan : P) (n draws : ℕ) (mark : ℕ → ℕ) (v : View P) : Type 0 where
+pub record ViewRules {P : Type 0} (plan : P) (n draws : ℕ) (mark : ℕ → ℕ) (v : View P) : Type 0 where
   pub planned : v.plan ≡ plan
   -- a drawn number is below the draw word, and is one of a chapter
   pub below : (c : ℕ) → 0 < drawings c v → (c < draws) × (c < n)
@@ -40,7 +40,7 @@ Ready {T} fits plan homes c = (x : T) × (get_elem? homes c ≡ some (some (Some
 
 pub record Rules {T P : Type 0} (fits : P → ℕ → T → Type 0) (plan : P) (n : ℕ) (s : State (Option T) (View P)) : Type 0 where
   pub wide : length s.words ≡ n + 2
-  pub each : (i : ℕ) (v : View P) → get_elem? s.views i ≡ some v → Sits plan n (slice_index s.words 0) (mark_in s.words) v
+  pub each : (i : ℕ) (v : View P) → get_elem? s.views i ≡ some v → ViewRules plan n (slice_index s.words 0) (mark_in s.words) v
   -- no number is drawn twice, over all seats
   pub once : (c : ℕ) → total (drawings c) s.views ≤ 1
   -- the draw word passes n by no more than the seats that may not draw any more have of the whole

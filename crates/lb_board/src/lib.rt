@@ -2,6 +2,7 @@
 #![tactic(auto)]
 
 mod board;
+pub mod crossing;
 mod drawn;
 mod plan;
 mod rule;
