@@ -18,6 +18,13 @@ use Rattle.lb_board.proofs.Sums.{same_no, same_yes, term_le, terms_le, total-set
 use Rattle.lb_board.proofs.Parts.{put, stays, takers, mark_here, mark_else, low_word}
 use Rattle.lb_board.proofs.Draws.{loaded, noted}
 
+-- a slot that was taken last is the first that is out
+pub first_out : {A V : Type 0} (m : Me A V) (v : V) (c d : ℕ) (x : A) (l : List (ℕ × A)) → m ≡ (v, (d, x) ∷ l) → d ≡ c → m.1 ≡ (c, x) ∷ rest m.1
+first_out m v c d x l now back = subst (λ k. k.1 ≡ (c, x) ∷ rest k.1) (sym now) (λ i. (back i, x) ∷ l)
+
+pub is_taking : {A P : Type 0} (m : Me A (View P)) (v : View P) (c d : ℕ) (l : List (ℕ × A)) → m ≡ (with_taking d v, l) → d ≡ c → 0 < v.allowance → (0 < m.0.allowance) × (m.0.taking ≡ Some c)
+is_taking m v c d l now back has = subst (λ k. (0 < k.0.allowance) × (k.0.taking ≡ Some c)) (sym now) (has, ap Some back)
+
 module _ {T P : Type 0} (fits : P → ℕ → T → Type 0) (plan : P) (n : ℕ) where
   abbrev St : Type 0
   St = State (Option T) (View P)
@@ -105,9 +112,9 @@ module _ {T P : Type 0} (fits : P → ℕ → T → Type 0) (plan : P) (n : ℕ)
         refl,
       )
 
-  pub posts : (slots id : ℕ) (m : Me (Option T) (View P)) (c : ℕ) (y : T) → slots ≡ n → c < n → 0 < m.0.allowance → m.0.held ≡ Some c → m.1 ≡ (c, Some y) ∷ rest m.1 → fits plan c y
-      → Allows H slots id m (c + 2) (λ _. 1) (posted (step slots (c + 2) 1 0 none) m)
-  posts slots id m c y is low has held out fit = subst (λ k. Allows H slots id (m.0, k) (c + 2) (λ _. 1) (posted (step slots (c + 2) 1 0 none) (m.0, k))) (sym out) (posts_one slots id m.0 c y (rest m.1) is low has held fit)
+  pub posts : (slots id : ℕ) (m : Me (Option T) (View P)) (v : View P) (c : ℕ) (y : T) (l : List (ℕ × Option T)) → m ≡ (v, (c, Some y) ∷ l) → slots ≡ n → c < n → 0 < v.allowance
+      → v.held ≡ Some c → fits plan c y → Allows H slots id m (c + 2) (λ _. 1) (posted (step slots (c + 2) 1 0 none) m)
+  posts slots id m v c y l now is low has held fit = subst (λ k. Allows H slots id k (c + 2) (λ _. 1) (posted (step slots (c + 2) 1 0 none) k)) (sym now) (posts_one slots id v c y l is low has held fit)
 
   empties_one : (slots id : ℕ) (v : View P) (c : ℕ) (l : List (ℕ × Option T)) → slots ≡ n → c < n → 0 < v.allowance → v.taking ≡ Some c
       → Allows H slots id (v, (c, None) ∷ l) (c + 2) (λ _. 3) (emptied (step slots (c + 2) 3 0 none) (v, (c, None) ∷ l))
@@ -125,9 +132,9 @@ module _ {T P : Type 0} (fits : P → ℕ → T → Type 0) (plan : P) (n : ℕ)
         refl,
       )
 
-  pub empties : (slots id : ℕ) (m : Me (Option T) (View P)) (c : ℕ) → slots ≡ n → c < n → 0 < m.0.allowance → m.0.taking ≡ Some c → m.1 ≡ (c, None) ∷ rest m.1
+  pub empties : (slots id : ℕ) (m : Me (Option T) (View P)) (v : View P) (c : ℕ) (l : List (ℕ × Option T)) → m ≡ (v, (c, None) ∷ l) → slots ≡ n → c < n → 0 < v.allowance → v.taking ≡ Some c
       → Allows H slots id m (c + 2) (λ _. 3) (emptied (step slots (c + 2) 3 0 none) m)
-  empties slots id m c is low has taking out = subst (λ k. Allows H slots id (m.0, k) (c + 2) (λ _. 3) (emptied (step slots (c + 2) 3 0 none) (m.0, k))) (sym out) (empties_one slots id m.0 c (rest m.1) is low has taking)
+  empties slots id m v c l now is low has taking = subst (λ k. Allows H slots id k (c + 2) (λ _. 3) (emptied (step slots (c + 2) 3 0 none) k)) (sym now) (empties_one slots id v c l is low has taking)
 
   -- where no other seat is left, what the rule knows of the whole is what this seat knows
   last_has : (s : St) (r : H s) (id : ℕ) (v : View P) (c : ℕ) → get_elem? s.views id ≡ some v → IsLast v → c < n → mark_in s.words c ≢ 1 → 0 < times c v.taken
