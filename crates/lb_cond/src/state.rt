@@ -1,14 +1,17 @@
 //! The conditionals that are open.
-ghost use Rattle.std.specs.Prelude.{◌≡◌, ◌∷◌, [], OnErr, OnOk, Option, drop, length};
+ghost use Rattle.std.specs.Prelude.{◌≡◌, ◌∷◌, ◌++◌, ◌<◌, ◌^◌, [], IfOk, OnErr, OnOk, Option, drop, length};
 ghost use Rattle.std.specs.Option.{option_copied};
-ghost use Rattle.lb_model.specs.Conditionals.{may_end, passed};
+ghost use Rattle.lb_model.specs.Conditionals.{decided_as, inside, may_end, passed};
 ghost use Rattle.lb_cond.specs.Open.{innermost, replaced};
 
 use lb_base::NoMemory;
 use lb_model::Conditional;
 use lb_model_grammar::Stopper;
-use std::alloc::Global;
+use std::alloc::{AllocError, Global};
 use std::marker::Model;
+
+/// The most conditionals inside another that are given up at once.
+const MOST_INSIDE: u64 = 4_294_967_295;
 
 /// The open conditionals, the innermost first.
 #[derive(Drop)]
@@ -43,9 +46,7 @@ impl CondState {
         ensures ok { OnOk result (self.new ≡ Conditional.Deciding ∷ self.old) }
         ensures err { OnErr result (self.new ≡ self.old) }
     {
-        self.around.push(self.inner)?;
-        self.inner = Conditional::Deciding;
-        Ok(())
+        self.put(Conditional::Deciding)
     }
 
     /// How many are open.
@@ -74,6 +75,90 @@ impl CondState {
             Stopper::Else => self.go_on(Conditional::Otherwise),
             Stopper::Or => self.go_on(Conditional::Case),
         }
+    }
+
+    /// Gives up those inside the one whose condition is read, and says how many they were; where they are more than 32 bits count, there is
+    /// no memory for them.
+    pub fn leave_inside(&mut self) -> Result<u64, NoMemory>
+        ensures count { IfOk result (λ count. count ≡ inside self.old) }
+        ensures small { IfOk result (λ count. count < 2 ^ 32) }
+        ensures left { OnOk result (self.new ≡ drop (inside self.old) self.old) }
+    {
+        let mut count = 0u64;
+        'around: loop {
+            match self.innermost() {
+                None => return Ok(count),
+                Some(Conditional::Deciding) => return Ok(count),
+                Some(Conditional::Then | Conditional::Case | Conditional::Otherwise) => {
+                    if count >= MOST_INSIDE {
+                        return Err(AllocError);
+                    }
+                    self.close();
+                    count += 1;
+                }
+            }
+        }
+    }
+
+    /// A part of the one whose condition is read is read from now on; those inside it stay open.
+    pub fn decide(&mut self, alloc: Global, part: Conditional) -> Result<(), NoMemory>
+        ensures { OnOk result (self.new ≡ decided_as part self.old) }
+    {
+        let mut inside = Vec::new(alloc);
+        self.take_inside(part, &mut inside)?;
+        self.put_all(inside)
+    }
+
+    // Takes those inside the one whose condition is read, of which a part is read from now on.
+    fn take_inside(
+        &mut self,
+        part: Conditional,
+        inside: &mut Vec<Conditional>,
+    ) -> Result<(), NoMemory>
+        ensures { OnOk result (inside.new.items ++ self.new ≡ inside.old.items ++ decided_as part self.old) }
+    {
+        'around: loop {
+            match self.innermost() {
+                None => return Ok(()),
+                Some(Conditional::Deciding) => {
+                    self.go_on(part);
+                    return Ok(());
+                }
+                Some(Conditional::Then) => {
+                    self.close();
+                    inside.push(Conditional::Then)?;
+                }
+                Some(Conditional::Case) => {
+                    self.close();
+                    inside.push(Conditional::Case)?;
+                }
+                Some(Conditional::Otherwise) => {
+                    self.close();
+                    inside.push(Conditional::Otherwise)?;
+                }
+            }
+        }
+    }
+
+    // Opens conditionals again, the last one first.
+    fn put_all(&mut self, conditionals: Vec<Conditional>) -> Result<(), NoMemory>
+        ensures { OnOk result (self.new ≡ conditionals.items ++ self.old) }
+    {
+        let mut conditionals = conditionals;
+        while let Some(conditional) = conditionals.pop() {
+            self.put(conditional)?;
+        }
+        Ok(())
+    }
+
+    // One more conditional, the innermost.
+    fn put(&mut self, conditional: Conditional) -> Result<(), NoMemory>
+        ensures ok { OnOk result (self.new ≡ conditional ∷ self.old) }
+        ensures err { OnErr result (self.new ≡ self.old) }
+    {
+        self.around.push(self.inner)?;
+        self.inner = conditional;
+        Ok(())
     }
 
     // The innermost one, if one is open, is closed.

@@ -8,6 +8,7 @@ use Rattle.lb_values.specs.declared.value.Value.{Value}
 use Rattle.lb_values.specs.declared.meaning.Meaning.{Meaning}
 use Rattle.lb_model_grammar.specs.declared.given.Given.{Given}
 use Rattle.lb_model.specs.declared.append.Append.{Append}
+use Rattle.lb_model.specs.declared.group.Group.{Group}
 use Rattle.lb_model.specs.declared.group.GroupKind.{GroupKind}
 use Rattle.lb_model.specs.declared.open.Conditional.{Conditional}
 use Rattle.lb_model.specs.declared.open.ReadingKind.{ReadingKind}
@@ -98,9 +99,11 @@ looks_of_meaning tok = []
 
 -- ---- Feeds
 
--- over what the cells of a feed were made, the loans of its cells and of its desk, and the loan by which its cells write a state in place
+-- over what the cells of a feed were made, the open groups and how many saves each has made, the loans of its cells and of its desk, and the
+-- loan by which its cells write a state in place
 pub record Origin : Type 0 where
   pub made : Setting
+  pub groups : List Group
   pub cells : ℕ
   pub desk : ℕ
   pub inner : ℕ

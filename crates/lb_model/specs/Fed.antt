@@ -14,4 +14,5 @@ pub record Reads {S X : Type 0} (F : Ghosts S) (took : Config → Took X) (looks
   pub narrows : (p : Setting) → F.agrees new p → F.agrees old p
   pub ok : IfOk result (λ x. (p : Setting) → F.agrees new p → noting took looks (F.configuration old p) (F.notes old) ≡ record { took = whole x (F.configuration new p); notes = F.notes new })
   pub fault : IfErr result (λ e. MayStopAt e (λ k. (p : Setting) → F.agrees new p → noting took looks (F.configuration old p) (F.notes old) ≡ record { took = failed k (F.configuration new p); notes = F.notes new }))
+  pub stands : (p : Setting) → F.agrees new p → F.stands old p → F.stands new p
   pub origin : F.origin new ≡ F.origin old

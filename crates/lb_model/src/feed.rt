@@ -23,8 +23,11 @@ pub trait Feed {
     /// The cells that were told while no write stood on them, and those on which one stands, where the cells keep account of them.
     ghost notes: { Self → Option Notes };
 
-    /// Over what the cells were made, and the loans.
+    /// Over what the cells were made, the open groups, and the loans.
     ghost origin: { Self → Origin };
+
+    /// As many saves stand as the open groups have made, where the setting agrees.
+    ghost stands: { Self → Setting → Type 0 };
 
     /// The next token, without expansion; none at the end of the piece. It takes a step. The faults are `Invalid` and `StepLimit`.
     fn plain(&mut self) -> Result<Option<Tok>, Stop>
@@ -33,6 +36,7 @@ pub trait Feed {
         ensures fault { IfErr result (λ e. MayStopAt e (λ k. (p : Setting) → agrees self.new p → plain (configuration self.old p) ≡ record { got = GotFault k; next = configuration self.new p })) }
         ensures notes { OnOk result ((p : Setting) → agrees self.new p → notes self.new ≡ option_map (noted_all (looks_of_plain (configuration self.old p))) (notes self.old)) }
         ensures notes_on_fault { IfErr result (λ e. MayStopAt e (λ k. (p : Setting) → agrees self.new p → notes self.new ≡ option_map (noted_all (looks_of_plain (configuration self.old p))) (notes self.old))) }
+        ensures stands { (p : Setting) → agrees self.new p → stands self.old p → stands self.new p }
         ensures origin { origin self.new ≡ origin self.old };
 
     /// The next token of this text, without expansion; none where the text or the piece ends before one. Its faults are those of `plain`.
@@ -42,6 +46,7 @@ pub trait Feed {
         ensures fault { IfErr result (λ e. MayStopAt e (λ k. (p : Setting) → agrees self.new p → in_file (configuration self.old p) ≡ record { got = GotFault k; next = configuration self.new p })) }
         ensures notes { OnOk result ((p : Setting) → agrees self.new p → notes self.new ≡ option_map (noted_all (looks_in_file (configuration self.old p))) (notes self.old)) }
         ensures notes_on_fault { IfErr result (λ e. MayStopAt e (λ k. (p : Setting) → agrees self.new p → notes self.new ≡ option_map (noted_all (looks_in_file (configuration self.old p))) (notes self.old))) }
+        ensures stands { (p : Setting) → agrees self.new p → stands self.old p → stands self.new p }
         ensures origin { origin self.new ≡ origin self.old };
 
     /// Puts a token before the rest. The fault is `DepthLimit`, where a million tokens are pending.
@@ -50,6 +55,7 @@ pub trait Feed {
         ensures ok { OnOk result ((p : Setting) → agrees self.new p → (pending (configuration self.old p).source < 1000000) × (configuration self.new p ≡ put_back tok (configuration self.old p))) }
         ensures fault { IfErr result (λ e. MayStopAt e (λ k. (k ≡ TheDepthLimit) × ((p : Setting) → agrees self.new p → (1000000 ≤ pending (configuration self.old p).source) × (configuration self.new p ≡ configuration self.old p)))) }
         ensures notes { notes self.new ≡ notes self.old }
+        ensures stands { (p : Setting) → agrees self.new p → stands self.old p → stands self.new p }
         ensures origin { origin self.new ≡ origin self.old };
 
     /// What a control sequence or an active character means now; none where it has no meaning or the token is neither. It takes no step.
@@ -59,5 +65,6 @@ pub trait Feed {
         ensures stays { (p : Setting) → agrees self.new p → configuration self.new p ≡ configuration self.old p }
         ensures notes { OnOk result (notes self.new ≡ option_map (noted_all (looks_of_meaning tok.now)) (notes self.old)) }
         ensures notes_on_err { OnErr result (notes self.new ≡ notes self.old) }
+        ensures stands { (p : Setting) → agrees self.new p → stands self.old p → stands self.new p }
         ensures origin { origin self.new ≡ origin self.old };
 }

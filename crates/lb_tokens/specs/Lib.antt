@@ -1,2 +1,5 @@
 pub mod Parts
 pub mod Rows
+pub mod Texts
+pub mod Stacks
+pub mod Layers

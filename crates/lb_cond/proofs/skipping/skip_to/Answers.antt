@@ -29,6 +29,7 @@ returns-in-Err g c =
         fault =
             fault-marked F (λ p. stop (marks p) l.level l.sought) Plain (λ p. noting (skipped c.args.inside c.args.target) (looks_skipped c.args.inside c.args.target) (F.configuration begun p) (F.notes begun))
             c.in-Err.stop c.plain.new.self l.feed (λ p h. sym (l.invariant.rest p (c.in-Err.ensures.narrows p h))) (λ p. refl) c.in-Err.ensures.fault c.in-Err.ensures.notes_on_fault;
+        stands = λ p h s. c.in-Err.ensures.stands p h (l.invariant.stands p (c.in-Err.ensures.narrows p h) s);
         origin = c.in-Err.ensures.origin ∙ l.invariant.origin;
       };
     }
@@ -50,6 +51,7 @@ returns-in-Ok-None g c =
             sym (l.invariant.rest p (c.in-Ok-None.ensures.narrows p h))
             ∙ reading-end true looks_with_meaning (stop (marks p) l.level l.sought) Plain (F.configuration l.feed p) d IfOpen (F.notes l.feed) (F.notes c.plain.new.self) refl taking refl
             (meaning-none (F.configuration l.feed p) (record { got = GotEnd; next = d }) (F.notes l.feed) (F.notes c.plain.new.self) taking refl (c.in-Ok-None.ensures.notes p h));
+        stands = λ p h s. c.in-Ok-None.ensures.stands p h (l.invariant.stands p (c.in-Ok-None.ensures.narrows p h) s);
         origin = c.in-Ok-None.ensures.origin ∙ l.invariant.origin;
       };
     }
@@ -83,6 +85,10 @@ returns-in-Stops g c =
             ∙ reading-done true looks_with_meaning r c.in-Stops.stopper d (F.notes c.meaning.new.self) (ap (λ t. stopped_by t (marks p) []) c.in-Stops.is)
             ∙ ap (λ f. record { took = whole c.in-Stops.stopper f; notes = F.notes c.meaning.new.self }) (sym (c.in-Ok.ensures.stays p h));
         fault = tt;
+        stands =
+            λ p h s.
+            let before = c.in-Ok.ensures.narrows p h in
+            c.in-Ok.ensures.stands p h (c.in-Ok-Some.ensures.stands p before (l.invariant.stands p (c.in-Ok-Some.ensures.narrows p before) s));
         origin = c.in-Ok.ensures.origin ∙ c.in-Ok-Some.ensures.origin ∙ l.invariant.origin;
       };
     }
@@ -135,5 +141,9 @@ tokens-preserved g c =
           let small = l.invariant.small in
           let level : c.in-Goes.next ≤ l.level + 1 = rw (ap level_of (sym c.in-Goes.is)) c.turn_of-turn.ensures.small in
           omega (arith, small, level);
+      stands =
+          λ p h s.
+          let before = c.in-Ok.ensures.narrows p h in
+          c.in-Ok.ensures.stands p h (c.in-Ok-Some.ensures.stands p before (l.invariant.stands p (c.in-Ok-Some.ensures.narrows p before) s));
       origin = c.in-Ok.ensures.origin ∙ c.in-Ok-Some.ensures.origin ∙ l.invariant.origin;
     }

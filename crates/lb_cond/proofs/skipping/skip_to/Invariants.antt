@@ -19,5 +19,6 @@ invariant-tokens g l =
           → reading true looks_with_meaning (stop (λ (tok : Tok). mark_of (meaning_now (F.configuration l.fn.feed p) tok)) l.level l.sought) (F.configuration l.feed p) (F.notes l.feed)
           ≡ reading true looks_with_meaning (stop (λ (tok : Tok). mark_of (meaning_now (F.configuration l.fn.feed p) tok)) l.inside l.fn.target) (F.configuration l.fn.feed p) (F.notes l.fn.feed);
       small : l.level ≤ l.inside + l._turn;
+      stands : (p : Setting) → F.agrees l.feed p → F.stands l.fn.feed p → F.stands l.feed p;
       origin : F.origin l.feed ≡ F.origin l.fn.feed;
     }

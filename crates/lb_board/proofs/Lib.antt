@@ -1,0 +1,5 @@
+pub mod Draws
+pub mod Joins
+pub mod Marks
+pub mod Parts
+pub mod Sums

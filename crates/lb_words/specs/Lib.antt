@@ -1,0 +1,4 @@
+pub mod Doubled
+pub mod Rest
+pub mod Standing
+pub mod Turns
