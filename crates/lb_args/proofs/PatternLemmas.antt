@@ -64,6 +64,7 @@ owed-arguments F pattern first s e =
     record {
       narrows = λ p h. h;
       rest = λ p h. ap (λ f. noting (arguments_as f pattern) (looks_arguments_as f pattern) (F.configuration s p) (F.notes s)) e;
+      stands = λ p h before. before;
       origin = refl;
     }
 
@@ -83,6 +84,7 @@ owed-each F so_far long rest delimiter next now old parts o =
           o.rest p h
           ∙ ap (λ ds. noting (further so_far (each_argument long ds)) (looks_each long ds) c (F.notes now)) parts
           ∙ ap (λ t. record { took = t; notes = option_map (noted_all (looks_each long (delimiter ∷ delimiters) c)) (F.notes now) }) (further-each so_far long delimiter delimiters c);
+      stands = o.stands;
       origin = o.origin;
     }
 
@@ -108,5 +110,6 @@ owed-plain F so_far pattern before parameters s e f =
           λ i. noting (took_both (taken in_file (front (e i))) (λ x. further so_far (each_argument pattern.long (f i))))
           (looks_both (taken in_file (front (e i))) (looks_taken in_file looks_in_file (front (e i))) (λ x. looks_each pattern.long (f i))) c (F.notes s)
           );
+      stands = λ p h before. before;
       origin = refl;
     }

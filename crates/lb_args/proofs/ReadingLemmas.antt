@@ -29,6 +29,7 @@ use Rattle.lb_model.proofs.TakenLemmas.{noted-append, noted-none, reading, readi
 pub record Owed {S X : Type 0} (F : Ghosts S) (took : Config → Took X) (looks : Config → List Cell) (start : Config → Took X) (start_looks : Config → List Cell) (now old : S) : Type 0 where
   pub narrows : (p : Setting) → F.agrees now p → F.agrees old p
   pub rest : (p : Setting) → F.agrees now p → noting start start_looks (F.configuration old p) (F.notes old) ≡ noting took looks (F.configuration now p) (F.notes now)
+  pub stands : (p : Setting) → F.agrees now p → F.stands old p → F.stands now p
   pub origin : F.origin now ≡ F.origin old
 
 -- the same of a reading of this text
@@ -36,7 +37,7 @@ abbrev pub OwedOf : {S X : Type 0} → Ghosts S → (List Given → Meant X) →
 OwedOf F m start start_looks now old = Owed F (taken in_file m) (looks_taken in_file looks_in_file m) start start_looks now old
 
 pub owed-start : {S X : Type 0} (F : Ghosts S) (start : Config → Took X) (start_looks : Config → List Cell) (s : S) → Owed F start start_looks start start_looks s s
-owed-start F start start_looks s = record { narrows = λ p h. h; rest = λ p h. refl; origin = refl }
+owed-start F start start_looks s = record { narrows = λ p h. h; rest = λ p h. refl; stands = λ p h before. before; origin = refl }
 
 -- ---- A token is taken
 
@@ -45,6 +46,7 @@ pub record Fed {S : Type 0} (F : Ghosts S) (got : Option Tok) (new old : S) : Ty
   pub narrows : (p : Setting) → F.agrees new p → F.agrees old p
   pub ok : (p : Setting) → F.agrees new p → in_file (F.configuration old p) ≡ record { got = asked got; next = F.configuration new p }
   pub notes : (p : Setting) → F.agrees new p → F.notes new ≡ option_map (noted_all (looks_in_file (F.configuration old p))) (F.notes old)
+  pub stands : (p : Setting) → F.agrees new p → F.stands old p → F.stands new p
   pub origin : F.origin new ≡ F.origin old
 
 -- an answer that is this one
@@ -52,13 +54,14 @@ pub fed : {S : Type 0} (F : Ghosts S) (got is : Option Tok) (new old : S) → go
     → ((p : Setting) → F.agrees new p → F.agrees old p)
     → ((p : Setting) → F.agrees new p → in_file (F.configuration old p) ≡ record { got = asked got; next = F.configuration new p })
     → ((p : Setting) → F.agrees new p → F.notes new ≡ option_map (noted_all (looks_in_file (F.configuration old p))) (F.notes old))
-    → F.origin new ≡ F.origin old
+    → ((p : Setting) → F.agrees new p → F.stands old p → F.stands new p) → F.origin new ≡ F.origin old
     → Fed F is new old
-fed F got is new old e narrows ok notes origin =
+fed F got is new old e narrows ok notes stands origin =
     record {
       narrows = narrows;
       ok = λ p h. ok p h ∙ ap (λ o. record { got = asked o; next = F.configuration new p }) e;
       notes = notes;
+      stands = stands;
       origin = origin;
     }
 
@@ -72,6 +75,7 @@ owed-token F m r tok new mid old o e f same =
           λ p h.
           o.rest p (f.narrows p h)
           ∙ reading-token false looks_in_file m r Plain (F.configuration mid p) (F.configuration new p) tok (F.notes mid) (F.notes new) e (f.ok p h) (f.notes p h) same;
+      stands = λ p h before. f.stands p h (o.stands p (f.narrows p h) before);
       origin = f.origin ∙ o.origin;
     }
 
@@ -86,6 +90,7 @@ reads-end F m k new mid old o e f wrong =
           λ p h.
           o.rest p (f.narrows p h)
           ∙ reading-end false looks_in_file m Plain (F.configuration mid p) (F.configuration new p) k (F.notes mid) (F.notes new) e (f.ok p h) wrong (f.notes p h);
+      stands = λ p h before. f.stands p h (o.stands p (f.narrows p h) before);
       origin = f.origin ∙ o.origin;
     }
 
@@ -95,15 +100,16 @@ pub reads-fault : {S X : Type 0} (F : Ghosts S) (m : List Given → Meant X) (st
     → ((p : Setting) → F.agrees new p → F.agrees mid p)
     → MayStopAt e (λ k. (p : Setting) → F.agrees new p → in_file (F.configuration mid p) ≡ record { got = GotFault k; next = F.configuration new p })
     → MayStopAt e (λ k. (p : Setting) → F.agrees new p → F.notes new ≡ option_map (noted_all (looks_in_file (F.configuration mid p))) (F.notes mid))
-    → F.origin new ≡ F.origin mid
+    → ((p : Setting) → F.agrees new p → F.stands mid p → F.stands new p) → F.origin new ≡ F.origin mid
     → Reads F start start_looks (Err e) new old
-reads-fault F m start start_looks e new mid old o opened narrows taking notes origin =
+reads-fault F m start start_looks e new mid old o opened narrows taking notes stands origin =
     record {
       narrows = λ p h. o.narrows p (narrows p h);
       ok = tt;
       fault =
           fault-read F false looks_in_file (λ p. m) Plain (λ p. noting start start_looks (F.configuration old p) (F.notes old)) e new mid
           (λ p h. o.rest p (narrows p h)) (λ p. opened) taking notes;
+      stands = λ p h before. stands p h (o.stands p (narrows p h) before);
       origin = origin ∙ o.origin;
     }
 
@@ -114,6 +120,7 @@ owed-is F m r now old e o =
     record {
       narrows = o.narrows;
       rest = λ p h. o.rest p h ∙ ap (λ m. reading false looks_in_file m (F.configuration now p) (F.notes now)) e;
+      stands = o.stands;
       origin = o.origin;
     }
 
@@ -126,6 +133,7 @@ reads-done F m x new old o e =
       narrows = o.narrows;
       ok = λ p h. o.rest p h ∙ reading-done false looks_in_file m x (F.configuration new p) (F.notes new) e;
       fault = tt;
+      stands = o.stands;
       origin = o.origin;
     }
 
@@ -136,6 +144,7 @@ reads-wrong F m k new old o e =
       narrows = o.narrows;
       ok = tt;
       fault = λ p h. o.rest p h ∙ reading-wrong false looks_in_file m k (F.configuration new p) (F.notes new) e;
+      stands = o.stands;
       origin = o.origin;
     }
 
@@ -148,18 +157,20 @@ reads-on F (Ok x) new mid old o r =
       narrows = λ p h. o.narrows p (r.narrows p h);
       ok = λ p h. o.rest p (r.narrows p h) ∙ r.ok p h;
       fault = tt;
+      stands = λ p h before. r.stands p h (o.stands p (r.narrows p h) before);
       origin = r.origin ∙ o.origin;
     }
 reads-on F (Err Memory) new mid old o r =
-    record { narrows = λ p h. o.narrows p (r.narrows p h); ok = tt; fault = tt; origin = r.origin ∙ o.origin }
+    record { narrows = λ p h. o.narrows p (r.narrows p h); ok = tt; fault = tt; stands = λ p h before. r.stands p h (o.stands p (r.narrows p h) before); origin = r.origin ∙ o.origin }
 reads-on F (Err (Fault k)) new mid old o r =
     record {
       narrows = λ p h. o.narrows p (r.narrows p h);
       ok = tt;
       fault = λ p h. o.rest p (r.narrows p h) ∙ r.fault p h;
+      stands = λ p h before. r.stands p h (o.stands p (r.narrows p h) before);
       origin = r.origin ∙ o.origin;
     }
-reads-on F (Err (At fault)) new mid old o r = record { narrows = λ p h. o.narrows p (r.narrows p h); ok = tt; fault = r.fault; origin = r.origin ∙ o.origin }
+reads-on F (Err (At fault)) new mid old o r = record { narrows = λ p h. o.narrows p (r.narrows p h); ok = tt; fault = r.fault; stands = λ p h before. r.stands p h (o.stands p (r.narrows p h) before); origin = r.origin ∙ o.origin }
 
 -- ---- A reading ends with a token that is not of it, or with the end
 
@@ -183,9 +194,9 @@ pub reads-back : {S X : Type 0} (F : Ghosts S) (m : List Given → Meant X) {sta
     → OwedOf F m start start_looks mid old → m [] ≡ Ended x (AToken tok ∷ [])
     → ((p : Setting) → F.agrees new p → F.agrees mid p)
     → ((p : Setting) → F.agrees new p → (pending (F.configuration mid p).source < 1000000) × (F.configuration new p ≡ put_back tok (F.configuration mid p)))
-    → F.notes new ≡ F.notes mid → F.origin new ≡ F.origin mid
+    → F.notes new ≡ F.notes mid → ((p : Setting) → F.agrees new p → F.stands mid p → F.stands new p) → F.origin new ≡ F.origin mid
     → Reads F start start_looks (Ok x) new old
-reads-back F m x tok new mid old o e narrows back notes origin =
+reads-back F m x tok new mid old o e narrows back notes stands origin =
     record {
       narrows = λ p h. o.narrows p (narrows p h);
       ok =
@@ -198,6 +209,7 @@ reads-back F m x tok new mid old o e narrows back notes origin =
           ∙ ap (λ b. record { took = if b then failed DepthLimit c else whole x (put_back tok c); notes = F.notes mid }) (le-ltb 1000000 (1 + pending c.source) fits)
           ∙ (λ i. record { took = whole x (sym (back p h).1 i); notes = sym notes i });
       fault = tt;
+      stands = λ p h before. stands p h (o.stands p (narrows p h) before);
       origin = origin ∙ o.origin;
     }
 
@@ -205,11 +217,11 @@ pub reads-full : {S X : Type 0} (F : Ghosts S) (m : List Given → Meant X) {sta
     → OwedOf F m start start_looks mid old → m [] ≡ Ended x (AToken tok ∷ [])
     → ((p : Setting) → F.agrees new p → F.agrees mid p)
     → MayStopAt e (λ k. (k ≡ DepthLimit) × ((p : Setting) → F.agrees new p → (1000000 ≤ pending (F.configuration mid p).source) × (F.configuration new p ≡ F.configuration mid p)))
-    → F.notes new ≡ F.notes mid → F.origin new ≡ F.origin mid
+    → F.notes new ≡ F.notes mid → ((p : Setting) → F.agrees new p → F.stands mid p → F.stands new p) → F.origin new ≡ F.origin mid
     → Reads F start start_looks (Err e) new old
-reads-full F m x tok Memory new mid old o e narrows full notes origin =
-    record { narrows = λ p h. o.narrows p (narrows p h); ok = tt; fault = tt; origin = origin ∙ o.origin }
-reads-full F m x tok (Fault k) new mid old o e narrows full notes origin =
+reads-full F m x tok Memory new mid old o e narrows full notes stands origin =
+    record { narrows = λ p h. o.narrows p (narrows p h); ok = tt; fault = tt; stands = λ p h before. stands p h (o.stands p (narrows p h) before); origin = origin ∙ o.origin }
+reads-full F m x tok (Fault k) new mid old o e narrows full notes stands origin =
     record {
       narrows = λ p h. o.narrows p (narrows p h);
       ok = tt;
@@ -222,10 +234,11 @@ reads-full F m x tok (Fault k) new mid old o e narrows full notes origin =
           ∙ reading-ended false looks_in_file m x (AToken tok ∷ []) c (F.notes mid) e
           ∙ ap (λ b. record { took = if b then failed DepthLimit c else whole x (put_back tok c); notes = F.notes mid }) (lt-ltb 1000000 (1 + pending c.source) over)
           ∙ (λ i. record { took = failed (sym full.0 i) (sym (full.1 p h).1 i); notes = sym notes i });
+      stands = λ p h before. stands p h (o.stands p (narrows p h) before);
       origin = origin ∙ o.origin;
     }
-reads-full F m x tok (At fault) new mid old o e narrows full notes origin =
-    record { narrows = λ p h. o.narrows p (narrows p h); ok = tt; fault = full; origin = origin ∙ o.origin }
+reads-full F m x tok (At fault) new mid old o e narrows full notes stands origin =
+    record { narrows = λ p h. o.narrows p (narrows p h); ok = tt; fault = full; stands = λ p h before. stands p h (o.stands p (narrows p h) before); origin = origin ∙ o.origin }
 
 -- at the end there is a reading
 end-took : {X : Type 0} (take : Config → Taking) (m : List Given → Meant X) (x : X) (c d : Config) → m [] ≡ Open Plain → take c ≡ record { got = GotEnd; next = d } → m (AnEnd ∷ []) ≡ Ended x (AnEnd ∷ [])
@@ -260,6 +273,7 @@ reads-whole-end F m x new mid old o e f whole_end =
           })
           ∙ ap (λ o. record { took = whole x d; notes = o }) (noted-append (looks_in_file c) [] (F.notes mid) ∙ noted-none (option_map (noted_all (looks_in_file c)) (F.notes mid)) ∙ sym (f.notes p h));
       fault = tt;
+      stands = λ p h before. f.stands p h (o.stands p (f.narrows p h) before);
       origin = f.origin ∙ o.origin;
     }
 
@@ -287,6 +301,7 @@ owed-then F took looks next next_looks x new mid old o r =
           o.rest p (r.narrows p h)
           ∙ (λ i. record { took = then_taken (e i).took next; notes = option_map (noted_all (looks c ++ looks_then (e i).took.outcome (e i).took.next next_looks)) n })
           ∙ ap (λ o. record { took = next x d; notes = o }) (noted-append (looks c) (next_looks x d) n ∙ (λ i. option_map (noted_all (next_looks x d)) (e i).notes));
+      stands = λ p h before. r.stands p h (o.stands p (r.narrows p h) before);
       origin = r.origin ∙ o.origin;
     }
 
@@ -294,7 +309,7 @@ pub reads-then-err : {S X Y : Type 0} (F : Ghosts S) (took : Config → Took X) 
     {start_looks : Config → List Cell} (e : Stop) (new mid old : S)
     → Owed F (took_both took next) (looks_both took looks next_looks) start start_looks mid old → Reads F took looks (Err e) new mid → Reads F start start_looks (Err e) new old
 reads-then-err F took looks next next_looks Memory new mid old o r =
-    record { narrows = λ p h. o.narrows p (r.narrows p h); ok = tt; fault = tt; origin = r.origin ∙ o.origin }
+    record { narrows = λ p h. o.narrows p (r.narrows p h); ok = tt; fault = tt; stands = λ p h before. r.stands p h (o.stands p (r.narrows p h) before); origin = r.origin ∙ o.origin }
 reads-then-err F took looks next next_looks (Fault k) new mid old o r =
     record {
       narrows = λ p h. o.narrows p (r.narrows p h);
@@ -308,10 +323,11 @@ reads-then-err F took looks next next_looks (Fault k) new mid old o r =
           o.rest p (r.narrows p h)
           ∙ (λ i. record { took = then_taken (e i).took next; notes = option_map (noted_all (looks c ++ looks_then (e i).took.outcome (e i).took.next next_looks)) n })
           ∙ ap (λ o. record { took = failed k d; notes = o }) (noted-append (looks c) [] n ∙ noted-none (option_map (noted_all (looks c)) n) ∙ (λ i. (e i).notes));
+      stands = λ p h before. r.stands p h (o.stands p (r.narrows p h) before);
       origin = r.origin ∙ o.origin;
     }
 reads-then-err F took looks next next_looks (At fault) new mid old o r =
-    record { narrows = λ p h. o.narrows p (r.narrows p h); ok = tt; fault = r.fault; origin = r.origin ∙ o.origin }
+    record { narrows = λ p h. o.narrows p (r.narrows p h); ok = tt; fault = r.fault; stands = λ p h before. r.stands p h (o.stands p (r.narrows p h) before); origin = r.origin ∙ o.origin }
 
 -- what is owed is said otherwise
 pub owed-as : {S X : Type 0} (F : Ghosts S) (took other : Config → Took X) (looks : Config → List Cell) {start : Config → Took X} {start_looks : Config → List Cell} (now old : S)
@@ -320,5 +336,6 @@ owed-as F took other looks now old same o =
     record {
       narrows = o.narrows;
       rest = λ p h. o.rest p h ∙ ap (λ t. record { took = t; notes = option_map (noted_all (looks (F.configuration now p))) (F.notes now) }) (same (F.configuration now p));
+      stands = o.stands;
       origin = o.origin;
     }

@@ -14,7 +14,7 @@ returns-in-Err g c =
     let l = c.tokens in
     record {
       reads = reads-fault g.F.Feed (decided c.args.long c.args.delimiter.now l.toks l.level l.count) _ _ c.in-Err.stop c.in_file.new.self l.feed c.args.feed.now l.invariant.owed l.invariant.goes.window.more
-          c.in-Err.ensures.narrows c.in-Err.ensures.fault c.in-Err.ensures.notes_on_fault c.in-Err.ensures.origin;
+          c.in-Err.ensures.narrows c.in-Err.ensures.fault c.in-Err.ensures.notes_on_fault c.in-Err.ensures.stands c.in-Err.ensures.origin;
     }
 
 pub returns-in-Ok-None : goal.returns-in-Ok-None
@@ -24,7 +24,7 @@ returns-in-Ok-None g c =
     let s = c.in-Ok-None in
     record {
       reads = reads-end F (decided c.args.long c.args.delimiter.now l.toks l.level l.count) Runaway c.in_file.new.self l.feed c.args.feed.now l.invariant.owed l.invariant.goes.window.more
-          (fed F _ _ c.in_file.new.self l.feed s.field-0-is s.ensures.narrows s.ensures.ok s.ensures.notes s.ensures.origin) l.invariant.goes.window.cut;
+          (fed F _ _ c.in_file.new.self l.feed s.field-0-is s.ensures.narrows s.ensures.ok s.ensures.notes s.ensures.stands s.ensures.origin) l.invariant.goes.window.cut;
     }
 
 pub returns-in-Whole : goal.returns-in-Whole
@@ -40,7 +40,7 @@ returns-in-Whole g c =
     let looks = looks_taken in_file looks_in_file (delimited long delimiter 0 []) in
     let now =
     delimited-token F long delimiter l.toks pushed l.level l.count s.tok settled {start = took} {start_looks = looks} c.in_file.new.self l.feed c.args.feed.now l.invariant.owed l.invariant.goes
-    (fed F _ _ c.in_file.new.self l.feed s.field-0-is s.ensures.narrows s.ensures.ok s.ensures.notes s.ensures.origin) (c.as_slice.ensures ∙ c.in_ok-push-in-Ok-Some.ensures.ok) c.settle-settled.ensures.settles
+    (fed F _ _ c.in_file.new.self l.feed s.field-0-is s.ensures.narrows s.ensures.ok s.ensures.notes s.ensures.stands s.ensures.origin) (c.as_slice.ensures ∙ c.in_ok-push-in-Ok-Some.ensures.ok) c.settle-settled.ensures.settles
     in
     record {
       reads = reads-done F (settles settled long delimiter pushed) {start = took} {start_looks = looks} c.without_braces.result c.in_file.new.self c.args.feed.now now
@@ -64,7 +64,7 @@ returns-in-Fails g c =
     let looks = looks_taken in_file looks_in_file (delimited long delimiter 0 []) in
     let now =
     delimited-token F long delimiter l.toks pushed l.level l.count s.tok settled {start = took} {start_looks = looks} c.in_file.new.self l.feed c.args.feed.now l.invariant.owed l.invariant.goes
-    (fed F _ _ c.in_file.new.self l.feed s.field-0-is s.ensures.narrows s.ensures.ok s.ensures.notes s.ensures.origin) (c.as_slice.ensures ∙ c.in_ok-push-in-Ok-Some.ensures.ok) c.settle-settled.ensures.settles
+    (fed F _ _ c.in_file.new.self l.feed s.field-0-is s.ensures.narrows s.ensures.ok s.ensures.notes s.ensures.stands s.ensures.origin) (c.as_slice.ensures ∙ c.in_ok-push-in-Ok-Some.ensures.ok) c.settle-settled.ensures.settles
     in
     record { reads = reads-wrong F (settles settled long delimiter pushed) {start = took} {start_looks = looks} c.in-Fails.kind c.in_file.new.self c.args.feed.now now (ap (λ s. settles s long delimiter pushed []) c.in-Fails.is) }
 
@@ -81,7 +81,7 @@ tokens-preserved g c =
     let looks = looks_taken in_file looks_in_file (delimited long delimiter 0 []) in
     let now =
     delimited-token F long delimiter l.toks pushed l.level l.count s.tok settled {start = took} {start_looks = looks} c.in_file.new.self l.feed c.args.feed.now l.invariant.owed l.invariant.goes
-    (fed F _ _ c.in_file.new.self l.feed s.field-0-is s.ensures.narrows s.ensures.ok s.ensures.notes s.ensures.origin) (c.as_slice.ensures ∙ c.in_ok-push-in-Ok-Some.ensures.ok) c.settle-settled.ensures.settles
+    (fed F _ _ c.in_file.new.self l.feed s.field-0-is s.ensures.narrows s.ensures.ok s.ensures.notes s.ensures.stands s.ensures.origin) (c.as_slice.ensures ∙ c.in_ok-push-in-Ok-Some.ensures.ok) c.settle-settled.ensures.settles
     in
     record {
       owed = owed-is F (settles settled long delimiter pushed) (decided long delimiter c.push.new.self c.in-Open.depth c.in-Open.further) {start = took} {start_looks = looks} c.in_file.new.self c.args.feed.now

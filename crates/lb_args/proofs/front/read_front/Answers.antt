@@ -14,7 +14,7 @@ returns-in-Err g c =
     let toks = c.args.toks.now in
     record {
       reads = reads-fault g.F.Feed (front (drop l.index toks)) _ _ c.in-Err.stop c.in_file.new.self l.feed c.args.feed.now l.invariant.owed (front-open toks l.index c.tokens-test.true) c.in-Err.ensures.narrows
-          c.in-Err.ensures.fault c.in-Err.ensures.notes_on_fault c.in-Err.ensures.origin;
+          c.in-Err.ensures.fault c.in-Err.ensures.notes_on_fault c.in-Err.ensures.stands c.in-Err.ensures.origin;
     }
 
 pub returns-in-Ok-None : goal.returns-in-Ok-None
@@ -25,7 +25,7 @@ returns-in-Ok-None g c =
     let s = c.in-Ok-None in
     record {
       reads = reads-end F (front (drop l.index toks)) UseMismatch c.in_file.new.self l.feed c.args.feed.now l.invariant.owed (front-open toks l.index c.tokens-test.true)
-          (fed F _ _ c.in_file.new.self l.feed s.field-0-is s.ensures.narrows s.ensures.ok s.ensures.notes s.ensures.origin) (front-cut toks l.index c.tokens-test.true);
+          (fed F _ _ c.in_file.new.self l.feed s.field-0-is s.ensures.narrows s.ensures.ok s.ensures.notes s.ensures.stands s.ensures.origin) (front-cut toks l.index c.tokens-test.true);
     }
 
 pub tokens-preserved : goal.tokens-preserved
@@ -37,7 +37,7 @@ tokens-preserved g c =
     let same = ap (λ t. tok_eq t s.tok) (sym c.index-toks-index.is) ∙ sym c.same_token.ensures ∙ c.if-same_token.true in
     record {
       owed = owed-token F (front (drop l.index toks)) (front (drop (l.index + 1) toks)) s.tok c.in_file.new.self l.feed c.args.feed.now l.invariant.owed (front-open toks l.index c.tokens-test.true)
-          (fed F _ _ c.in_file.new.self l.feed s.field-0-is s.ensures.narrows s.ensures.ok s.ensures.notes s.ensures.origin) (λ given. front-next toks l.index _ s.tok given c.tokens-test.true same);
+          (fed F _ _ c.in_file.new.self l.feed s.field-0-is s.ensures.narrows s.ensures.ok s.ensures.notes s.ensures.stands s.ensures.origin) (λ given. front-next toks l.index _ s.tok given c.tokens-test.true same);
     }
 
 pub returns-in-Ok-Some : goal.returns-in-Ok-Some
@@ -49,7 +49,7 @@ returns-in-Ok-Some g c =
     let differ = ap (λ t. tok_eq t s.tok) (sym c.index-toks-index.is) ∙ sym c.same_token.ensures ∙ c.if-same_token.false in
     let r = λ (given : List Given). Wrong UseMismatch in
     let now = owed-token F (front (drop l.index toks)) r s.tok c.in_file.new.self l.feed c.args.feed.now l.invariant.owed (front-open toks l.index c.tokens-test.true)
-    (fed F _ _ c.in_file.new.self l.feed s.field-0-is s.ensures.narrows s.ensures.ok s.ensures.notes s.ensures.origin) (λ given. front-not toks l.index _ s.tok given c.tokens-test.true differ) in
+    (fed F _ _ c.in_file.new.self l.feed s.field-0-is s.ensures.narrows s.ensures.ok s.ensures.notes s.ensures.stands s.ensures.origin) (λ given. front-not toks l.index _ s.tok given c.tokens-test.true differ) in
     record { reads = reads-wrong F r UseMismatch c.in_file.new.self c.args.feed.now now refl }
 
 pub returns : goal.returns

@@ -11,7 +11,7 @@ returns-in-Err g c =
     let l = c.tokens in
     record {
       reads = reads-fault g.F.Feed (group c.args.long l.level l.body) _ _ c.in-Err.stop c.in_file.new.self l.feed c.args.feed.now l.invariant.owed refl c.in-Err.ensures.narrows c.in-Err.ensures.fault
-          c.in-Err.ensures.notes_on_fault c.in-Err.ensures.origin;
+          c.in-Err.ensures.notes_on_fault c.in-Err.ensures.stands c.in-Err.ensures.origin;
     }
 
 pub returns-in-Ok-None : goal.returns-in-Ok-None
@@ -21,7 +21,7 @@ returns-in-Ok-None g c =
     let s = c.in-Ok-None in
     record {
       reads = reads-end F (group c.args.long l.level l.body) Runaway c.in_file.new.self l.feed c.args.feed.now l.invariant.owed refl
-          (fed F _ _ c.in_file.new.self l.feed s.field-0-is s.ensures.narrows s.ensures.ok s.ensures.notes s.ensures.origin) refl;
+          (fed F _ _ c.in_file.new.self l.feed s.field-0-is s.ensures.narrows s.ensures.ok s.ensures.notes s.ensures.stands s.ensures.origin) refl;
     }
 
 pub returns-in-None : goal.returns-in-None
@@ -32,7 +32,7 @@ returns-in-None g c =
     let long = c.args.long in
     let now =
     group-token F long l.level l.body s.tok c.brace_of-brace.result c.group_turn-turn.result c.len.result c.in_file.new.self l.feed c.args.feed.now l.invariant.owed
-    (fed F _ _ c.in_file.new.self l.feed s.field-0-is s.ensures.narrows s.ensures.ok s.ensures.notes s.ensures.origin) c.brace_of-brace.ensures c.len.ensures c.group_turn-turn.ensures.turn
+    (fed F _ _ c.in_file.new.self l.feed s.field-0-is s.ensures.narrows s.ensures.ok s.ensures.notes s.ensures.stands s.ensures.origin) c.brace_of-brace.ensures c.len.ensures c.group_turn-turn.ensures.turn
     in
     record {
       reads = reads-done F (group_behind long c.group_turn-turn.result l.body s.tok) l.body c.in_file.new.self c.args.feed.now now (ap (λ t. group_behind long t l.body s.tok []) c.in-None.is);
@@ -46,7 +46,7 @@ returns-in-Fails g c =
     let long = c.args.long in
     let now =
     group-token F long l.level l.body s.tok c.brace_of-brace.result c.group_turn-turn.result c.len.result c.in_file.new.self l.feed c.args.feed.now l.invariant.owed
-    (fed F _ _ c.in_file.new.self l.feed s.field-0-is s.ensures.narrows s.ensures.ok s.ensures.notes s.ensures.origin) c.brace_of-brace.ensures c.len.ensures c.group_turn-turn.ensures.turn
+    (fed F _ _ c.in_file.new.self l.feed s.field-0-is s.ensures.narrows s.ensures.ok s.ensures.notes s.ensures.stands s.ensures.origin) c.brace_of-brace.ensures c.len.ensures c.group_turn-turn.ensures.turn
     in
     record {
       reads = reads-wrong F (group_behind long c.group_turn-turn.result l.body s.tok) c.in-Fails.kind c.in_file.new.self c.args.feed.now now
@@ -61,7 +61,7 @@ tokens-preserved g c =
     let long = c.args.long in
     let now =
     group-token F long l.level l.body s.tok c.brace_of-brace.result c.group_turn-turn.result c.len.result c.in_file.new.self l.feed c.args.feed.now l.invariant.owed
-    (fed F _ _ c.in_file.new.self l.feed s.field-0-is s.ensures.narrows s.ensures.ok s.ensures.notes s.ensures.origin) c.brace_of-brace.ensures c.len.ensures c.group_turn-turn.ensures.turn
+    (fed F _ _ c.in_file.new.self l.feed s.field-0-is s.ensures.narrows s.ensures.ok s.ensures.notes s.ensures.stands s.ensures.origin) c.brace_of-brace.ensures c.len.ensures c.group_turn-turn.ensures.turn
     in
     let n = c.in-Goes.next in
     record {

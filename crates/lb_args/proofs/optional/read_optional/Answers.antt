@@ -14,7 +14,7 @@ returns-in-Err g c =
     let l = c.tokens in
     record {
       reads = reads-fault g.F.Feed (optional c.args.long c.args.default.now) _ _ c.in-Err.stop c.in_file.new.self l.feed c.args.feed.now l.invariant.owed refl
-          c.in-Err.ensures.narrows c.in-Err.ensures.fault c.in-Err.ensures.notes_on_fault c.in-Err.ensures.origin;
+          c.in-Err.ensures.narrows c.in-Err.ensures.fault c.in-Err.ensures.notes_on_fault c.in-Err.ensures.stands c.in-Err.ensures.origin;
     }
 
 pub returns-in-Ok-None : goal.returns-in-Ok-None
@@ -24,7 +24,7 @@ returns-in-Ok-None g c =
     let s = c.in-Ok-None in
     record {
       reads = reads-whole-end F (optional c.args.long c.args.default.now) _ c.in_file.new.self l.feed c.args.feed.now l.invariant.owed refl
-          (fed F _ _ c.in_file.new.self l.feed s.field-0-is s.ensures.narrows s.ensures.ok s.ensures.notes s.ensures.origin)
+          (fed F _ _ c.in_file.new.self l.feed s.field-0-is s.ensures.narrows s.ensures.ok s.ensures.notes s.ensures.stands s.ensures.origin)
           (ap (λ d. Ended d (AnEnd ∷ [])) (sym c.in_ok-copy_tokens-in-Ok-None.ensures));
     }
 
@@ -36,7 +36,7 @@ tokens-preserved g c =
     let long = c.args.long in
     let default = c.args.default.now in
     let this =
-    (fed F _ _ c.in_file.new.self l.feed s.field-0-is s.ensures.narrows s.ensures.ok s.ensures.notes s.ensures.origin) in
+    (fed F _ _ c.in_file.new.self l.feed s.field-0-is s.ensures.narrows s.ensures.ok s.ensures.notes s.ensures.stands s.ensures.origin) in
     record {
       owed = owed-token F (optional long default) (optional long default) s.tok c.in_file.new.self l.feed c.args.feed.now l.invariant.owed refl this
           (λ given. optional-space long default s.tok given (sym c.is_space.ensures ∙ c.if-is_space.true));
@@ -50,7 +50,7 @@ returns-then-is_bracket g c =
     let long = c.args.long in
     let default = c.args.default.now in
     let this =
-    (fed F _ _ c.in_file.new.self l.feed s.field-0-is s.ensures.narrows s.ensures.ok s.ensures.notes s.ensures.origin) in
+    (fed F _ _ c.in_file.new.self l.feed s.field-0-is s.ensures.narrows s.ensures.ok s.ensures.notes s.ensures.stands s.ensures.origin) in
     record {
       reads = reads-on F c.read_delimited.result c.read_delimited.new.feed c.in_file.new.self c.args.feed.now
           (
@@ -68,14 +68,14 @@ returns-in-Err-back g c =
     let long = c.args.long in
     let default = c.args.default.now in
     let this =
-    (fed F _ _ c.in_file.new.self l.feed s.field-0-is s.ensures.narrows s.ensures.ok s.ensures.notes s.ensures.origin) in
+    (fed F _ _ c.in_file.new.self l.feed s.field-0-is s.ensures.narrows s.ensures.ok s.ensures.notes s.ensures.stands s.ensures.origin) in
     let r = λ (given : List Given). Ended default (AToken s.tok ∷ given) in
     let now =
     owed-token F (optional long default) r s.tok c.in_file.new.self l.feed c.args.feed.now l.invariant.owed refl this
     (λ given. optional-other long default s.tok given (sym c.is_space.ensures ∙ c.if-is_space.false) (sym c.is_bracket.ensures ∙ c.if-is_bracket.false))
     in
     let e = c.in-Err-back in
-    record { reads = reads-full F r default s.tok e.stop c.back.new.self c.in_file.new.self c.args.feed.now now refl e.ensures.narrows e.ensures.fault e.ensures.notes e.ensures.origin }
+    record { reads = reads-full F r default s.tok e.stop c.back.new.self c.in_file.new.self c.args.feed.now now refl e.ensures.narrows e.ensures.fault e.ensures.notes e.ensures.stands e.ensures.origin }
 
 pub returns-in-Ok : goal.returns-in-Ok
 returns-in-Ok g c =
@@ -85,7 +85,7 @@ returns-in-Ok g c =
     let long = c.args.long in
     let default = c.args.default.now in
     let this =
-    (fed F _ _ c.in_file.new.self l.feed s.field-0-is s.ensures.narrows s.ensures.ok s.ensures.notes s.ensures.origin) in
+    (fed F _ _ c.in_file.new.self l.feed s.field-0-is s.ensures.narrows s.ensures.ok s.ensures.notes s.ensures.stands s.ensures.origin) in
     let r = λ (given : List Given). Ended default (AToken s.tok ∷ given) in
     let now =
     owed-token F (optional long default) r s.tok c.in_file.new.self l.feed c.args.feed.now l.invariant.owed refl this
@@ -94,5 +94,5 @@ returns-in-Ok g c =
     let o = c.in-Ok in
     record {
       reads = reads-back F r _ s.tok c.back.new.self c.in_file.new.self c.args.feed.now now (ap (λ d. Ended d (AToken s.tok ∷ [])) (sym c.in_ok-copy_tokens-in-Ok.ensures)) o.ensures.narrows o.ensures.ok
-          o.ensures.notes o.ensures.origin;
+          o.ensures.notes o.ensures.stands o.ensures.origin;
     }

@@ -12,7 +12,7 @@ returns-in-Err g c =
     let l = c.tokens in
     record {
       reads = reads-fault g.F.Feed (undelimited c.args.long) _ _ c.in-Err.stop c.in_file.new.self l.feed c.args.feed.now l.invariant.owed refl c.in-Err.ensures.narrows c.in-Err.ensures.fault
-          c.in-Err.ensures.notes_on_fault c.in-Err.ensures.origin;
+          c.in-Err.ensures.notes_on_fault c.in-Err.ensures.stands c.in-Err.ensures.origin;
     }
 
 pub returns-in-Ok-None : goal.returns-in-Ok-None
@@ -22,7 +22,7 @@ returns-in-Ok-None g c =
     let s = c.in-Ok-None in
     record {
       reads = reads-end F (undelimited c.args.long) Runaway c.in_file.new.self l.feed c.args.feed.now l.invariant.owed refl
-          (fed F _ _ c.in_file.new.self l.feed s.field-0-is s.ensures.narrows s.ensures.ok s.ensures.notes s.ensures.origin) refl;
+          (fed F _ _ c.in_file.new.self l.feed s.field-0-is s.ensures.narrows s.ensures.ok s.ensures.notes s.ensures.stands s.ensures.origin) refl;
     }
 
 pub returns-in-Fails : goal.returns-in-Fails
@@ -33,7 +33,7 @@ returns-in-Fails g c =
     let long = c.args.long in
     let now =
     undelimited-token F long s.tok c.brace_of-brace.result c.first_of-first.result c.in_file.new.self l.feed c.args.feed.now l.invariant.owed
-    (fed F _ _ c.in_file.new.self l.feed s.field-0-is s.ensures.narrows s.ensures.ok s.ensures.notes s.ensures.origin) c.brace_of-brace.ensures c.first_of-first.ensures
+    (fed F _ _ c.in_file.new.self l.feed s.field-0-is s.ensures.narrows s.ensures.ok s.ensures.notes s.ensures.stands s.ensures.origin) c.brace_of-brace.ensures c.first_of-first.ensures
     in
     record { reads = reads-wrong F (begun c.first_of-first.result long s.tok) c.in-Fails.kind c.in_file.new.self c.args.feed.now now (ap (λ f. begun f long s.tok []) c.in-Fails.is) }
 
@@ -45,7 +45,7 @@ returns-in-One g c =
     let long = c.args.long in
     let now =
     undelimited-token F long s.tok c.brace_of-brace.result c.first_of-first.result c.in_file.new.self l.feed c.args.feed.now l.invariant.owed
-    (fed F _ _ c.in_file.new.self l.feed s.field-0-is s.ensures.narrows s.ensures.ok s.ensures.notes s.ensures.origin) c.brace_of-brace.ensures c.first_of-first.ensures
+    (fed F _ _ c.in_file.new.self l.feed s.field-0-is s.ensures.narrows s.ensures.ok s.ensures.notes s.ensures.stands s.ensures.origin) c.brace_of-brace.ensures c.first_of-first.ensures
     in
     let one = c.in_ok-push-in-One.ensures.ok ∙ ap (λ b. b ++ s.tok ∷ []) c.new-argument.ensures in
     record {
@@ -60,7 +60,7 @@ returns-in-Group g c =
     let long = c.args.long in
     let now =
     undelimited-token F long s.tok c.brace_of-brace.result c.first_of-first.result c.in_file.new.self l.feed c.args.feed.now l.invariant.owed
-    (fed F _ _ c.in_file.new.self l.feed s.field-0-is s.ensures.narrows s.ensures.ok s.ensures.notes s.ensures.origin) c.brace_of-brace.ensures c.first_of-first.ensures
+    (fed F _ _ c.in_file.new.self l.feed s.field-0-is s.ensures.narrows s.ensures.ok s.ensures.notes s.ensures.stands s.ensures.origin) c.brace_of-brace.ensures c.first_of-first.ensures
     in
     record {
       reads = reads-on F c.read_group.result c.read_group.new.feed c.in_file.new.self c.args.feed.now
@@ -75,6 +75,6 @@ tokens-preserved g c =
     let long = c.args.long in
     let now =
     undelimited-token F long s.tok c.brace_of-brace.result c.first_of-first.result c.in_file.new.self l.feed c.args.feed.now l.invariant.owed
-    (fed F _ _ c.in_file.new.self l.feed s.field-0-is s.ensures.narrows s.ensures.ok s.ensures.notes s.ensures.origin) c.brace_of-brace.ensures c.first_of-first.ensures
+    (fed F _ _ c.in_file.new.self l.feed s.field-0-is s.ensures.narrows s.ensures.ok s.ensures.notes s.ensures.stands s.ensures.origin) c.brace_of-brace.ensures c.first_of-first.ensures
     in
     record { owed = owed-is F (begun c.first_of-first.result long s.tok) (undelimited long) c.in_file.new.self c.args.feed.now (ap (λ f. begun f long s.tok) c.in-Space.is) now }
