@@ -9,13 +9,9 @@ paper=$folder/lb_tests_paper
 pages=$folder/lb_tests_pages
 text=$folder/lb_tests_text
 scan=$folder/lb_tests_scan
-<<<<<<< HEAD
 board=$folder/lb_tests_board
-mkdir -p "$paper/data" "$pages" "$text/data" "$scan" "$board"
-=======
 record=$folder/lb_tests_record
-mkdir -p "$paper/data" "$pages" "$text/data" "$scan" "$record"
->>>>>>> b65ed83dc7934bdba2418d8085fdda70c6eb47d4
+mkdir -p "$paper/data" "$pages" "$text/data" "$scan" "$board" "$record"
 
 # The commands of a crate are given on standard input; its answers come from a script.
 answer() {
@@ -30,13 +26,9 @@ python3 "$here/text_fonts.py" "$text/data" || exit 1
 { python3 "$here/page_cases.py" && echo clear && python3 "$here/paragraph_cases.py"; } | answer "$pages" pages.py
 python3 "$here/text_cases.py" "$text/data" | answer "$text" text.py
 python3 "$here/scan_cases.py" | answer "$scan" scan.py
-<<<<<<< HEAD
 python3 "$here/board_cases.py" | answer "$board" board.py
-for crate in lb_tests_paper lb_tests_pages lb_tests_text lb_tests_scan lb_tests_board; do
-=======
 python3 "$here/record_cases.py" | answer "$record" record.py
-for crate in lb_tests_paper lb_tests_pages lb_tests_text lb_tests_scan lb_tests_record; do
->>>>>>> b65ed83dc7934bdba2418d8085fdda70c6eb47d4
+for crate in lb_tests_paper lb_tests_pages lb_tests_text lb_tests_scan lb_tests_board lb_tests_record; do
     stored=$here/../crates/$crate
     if [ "$1" = --store ]; then
         if [ -d "$folder/$crate/data" ]; then

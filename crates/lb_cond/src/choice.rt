@@ -1,8 +1,20 @@
 //! Tests of numbers (TeXbook, chapter 20).
 ghost use Rattle.std.specs.Prelude.{◌≡◌};
+ghost use Rattle.lb_model.specs.Conditionals.{comparison};
 ghost use Rattle.lb_model_grammar.specs.Conditionals.{chosen, if_true, is_related};
 
+use lb_model::Compared;
 use lb_model_grammar::{Branch, CondKind, Rel};
+
+/// The test of a relation between two numbers or two dimensions.
+pub fn comparison(compared: Compared, rel: Rel) -> CondKind
+    ensures { result ≡ comparison compared rel }
+{
+    match compared {
+        Compared::Numbers => CondKind::IfNum(rel),
+        Compared::Dimensions => CondKind::IfDim(rel),
+    }
+}
 
 /// The part that a test of these numbers chooses. `\ifodd` and `\ifcase` take the left one alone. Takes no memory.
 pub fn test(kind: CondKind, left: i64, right: i64) -> Branch

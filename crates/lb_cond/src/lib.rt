@@ -6,7 +6,7 @@ mod commands;
 mod skipping;
 mod state;
 
-pub use choice::test;
+pub use choice::{comparison, test};
 pub use commands::expandable;
 pub use lb_model_grammar::{Branch, CondKind, Rel, Sought, Stopper};
 pub use skipping::{mark_of, skip, skip_to};
