@@ -1,0 +1,62 @@
+-- Readings that close, and what becomes of what they read.
+use Rattle.std.specs.Prelude.{◌≡◌, ℕ, ℤ, pos, List, Option, is_some, Result, IfOk, if◌then◌else◌}
+use Rattle.std.specs.Option.{option_map}
+use Rattle.lb_base.specs.declared.fault.Kind.TheVariants.{TokenMisplaced}
+use Rattle.lb_rows.specs.declared.command.Command.TheVariants as command
+use Rattle.lb_values.specs.declared.cell.Cell.TheVariants as cell
+use Rattle.lb_values.specs.declared.meaning.Meaning.{Meaning}
+use Rattle.lb_values.specs.declared.meaning.Meaning.TheVariants as meaning
+use Rattle.lb_values.specs.declared.reach.Reach.TheVariants.{Local}
+use Rattle.lb_values.specs.declared.value.Form.TheVariants as form
+use Rattle.lb_values.specs.declared.value.Value.TheVariants as value
+use Rattle.lb_model.specs.Stacked.{assigned, notes_assigned}
+use Rattle.lb_model_book.specs.declared.expansion.Went.TheVariants.{On}
+use Rattle.lb_model.specs.declared.cells.Cells.{Ghosts}
+use Rattle.lb_model.specs.declared.open.Purpose.{Purpose}
+use Rattle.lb_model.specs.declared.open.Purpose.TheVariants.{Roman, Left, Right, Odd, Case, Index}
+use Rattle.lb_model.specs.declared.open.ReadingKind.TheVariants as reading
+use Rattle.lb_model.specs.Conditionals.{comparison}
+use Rattle.lb_model.specs.Configs.{Config}
+use Rattle.lb_model.specs.Forms.{in_form}
+use Rattle.lb_model.specs.Quantities.{Internal}
+use Rattle.lb_model.specs.Settings.{Setting}
+use Rattle.lb_model_grammar.specs.Conditionals.{chosen}
+use Rattle.lb_model_grammar.specs.declared.condition.CondKind.TheVariants.{IfOdd, IfCase}
+use Rattle.lb_model_book.specs.Expansion.{decided, in_form_or, index_closed, opened_uncounted, picks}
+use Rattle.lb_model_book.specs.Steps.{Performed, on, performed, stopped}
+use Rattle.lb_quantities.specs.Finds.{internal_of}
+use Rattle.lb_expand.specs.Performs.{Passes}
+use Rattle.lb_expand.specs.declared.closing.Closed.{Closed}
+use Rattle.lb_expand.specs.declared.closing.Closed.TheVariants.{Went, Hands}
+use Rattle.lb_expand.specs.declared.desk.Desk.{Desk}
+
+-- what comes of a reading that closed, where this is done with a quantity that it hands on
+abbrev pub handed_on : Closed → (Internal → Config → Performed) → Config → Performed
+handed_on (Went went) more = performed went
+handed_on (Hands found) more = more (internal_of found)
+
+-- a call over cells and a desk that closes a reading, whatever is done with the quantity that it hands on
+pub record Closes {S E : Type 0} (C : Ghosts S) (act : (Internal → Config → Performed) → Config → Performed) (result : Result Closed E) (new : S) (desk_new : Desk) (old : S) (desk_old : Desk) : Type 0 where
+  pub narrows : (p : Setting) → C.agrees new p → C.agrees old p
+  pub passes : IfOk result (λ closed. (more : Internal → Config → Performed) → Passes C (act more) (handed_on closed more) new desk_new old desk_old)
+  pub made : C.made new ≡ C.made old
+  pub loan : C.loan new ≡ C.loan old
+
+-- what becomes of a number once the tokens behind it are put back
+abbrev pub number_used : Purpose → ℤ → (Internal → Config → Performed) → Config → Performed
+number_used Roman n more c = in_form_or (in_form form.LowerRoman n) c
+number_used (Left compared) n more c = opened_uncounted (reading.Relation compared n) c
+number_used (Right compared left rel) n more c = decided (chosen (comparison compared rel) left n) c
+number_used Odd n more c = decided (chosen IfOdd n (pos 0)) c
+number_used Case n more c = decided (chosen IfCase n (pos 0)) c
+number_used (Index i) n more c = index_closed i (picks n) more c
+number_used purpose n more c = stopped TokenMisplaced c
+
+-- the control sequence of this name is made `\relax` where it has no meaning
+abbrev pub relax_if : List ℕ → Option Meaning → Config → Performed
+relax_if name m c =
+    if is_some m then on c
+    else record {
+      done = record { went = On; next = record c { cells = assigned Local (cell.Word name) (value.Meaning (meaning.Row command.Relax)) c.cells } };
+      noted = option_map (notes_assigned Local (cell.Word name));
+    }
