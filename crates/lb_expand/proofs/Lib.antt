@@ -1,3 +1,4 @@
 pub mod Cases
 pub mod CloseLemmas
 pub mod PassLemmas
+pub mod ScanLemmas

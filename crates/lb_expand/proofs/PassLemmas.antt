@@ -302,3 +302,12 @@ and-ended {S} {E} {C} act more went {new} {desk_new} {old} {desk_old} ends first
       made = first.made;
       loan = first.loan;
     }
+
+-- what is done by one is done by the other
+pub same-passes : {S : Type 0} (C : Ghosts S) {act rest : Config → Performed} {s : S} {desk : Desk} → ((c : Config) → act c ≡ rest c) → Passes C act rest s desk s desk
+same-passes C {act} {rest} {s} {desk} e =
+    record {
+      done = λ p h. ap (λ q. q.done) (e (config p.world (C.meaning s p) desk));
+      notes = λ p h. ap (λ q. q.noted (stacked_notes desk.groups (C.notes s))) (e (config p.world (C.meaning s p) desk));
+      standing = λ p h t. t;
+    }

@@ -13,16 +13,18 @@ use Rattle.lb_model.specs.Stacked.{assigned, notes_assigned}
 use Rattle.lb_model_book.specs.declared.expansion.Went.TheVariants.{On}
 use Rattle.lb_model.specs.declared.cells.Cells.{Ghosts}
 use Rattle.lb_model.specs.declared.open.Purpose.{Purpose}
-use Rattle.lb_model.specs.declared.open.Purpose.TheVariants.{Roman, Left, Right, Odd, Case, Index}
+use Rattle.lb_model.specs.declared.open.Purpose.TheVariants.{Roman, Left, Right, Odd, Case, Index, CounterValue}
 use Rattle.lb_model.specs.declared.open.ReadingKind.TheVariants as reading
 use Rattle.lb_model.specs.Conditionals.{comparison}
 use Rattle.lb_model.specs.Configs.{Config}
 use Rattle.lb_model.specs.Forms.{in_form}
 use Rattle.lb_model.specs.Quantities.{Internal}
+use Rattle.lb_model.specs.Quantities.Internal.{Picked}
+use Rattle.lb_model_grammar.specs.declared.given.ScanKind.TheVariants as scan_kind
 use Rattle.lb_model.specs.Settings.{Setting}
 use Rattle.lb_model_grammar.specs.Conditionals.{chosen}
 use Rattle.lb_model_grammar.specs.declared.condition.CondKind.TheVariants.{IfOdd, IfCase}
-use Rattle.lb_model_book.specs.Expansion.{decided, in_form_or, index_closed, opened_uncounted, picks}
+use Rattle.lb_model_book.specs.Expansion.{decided, in_form_or, index_closed, opened, opened_uncounted, picks, word_opened}
 use Rattle.lb_model_book.specs.Steps.{Performed, on, performed, stopped}
 use Rattle.lb_quantities.specs.Finds.{internal_of}
 use Rattle.lb_expand.specs.Performs.{Passes}
@@ -60,3 +62,8 @@ relax_if name m c =
       done = record { went = On; next = record c { cells = assigned Local (cell.Word name) (value.Meaning (meaning.Row command.Relax)) c.cells } };
       noted = option_map (notes_assigned Local (cell.Word name));
     }
+
+-- a quantity that has still to be read
+abbrev pub more_read : Internal → Config → Performed
+more_read (Picked i) c = opened (reading.Scan scan_kind.Number (Index i)) c
+more_read i c = word_opened CounterValue c

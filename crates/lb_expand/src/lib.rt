@@ -1,6 +1,7 @@
 //! Tokens, expanded (TeXbook, chapter 20; tex.web, parts 24 to 28).
 #![tactic(auto)]
 
+mod asking;
 mod closing;
 mod conditionals;
 mod desk;

@@ -81,9 +81,9 @@ impl<'a, C: Cells> Feeder<'a, C> {
         }
     }
 
-    // A number or a dimension is read for a test.
+    /// A number or a dimension is read for this.
     #[tactic(auto, using(crate::proofs::PassLemmas::works_performs))]
-    fn read_for(&mut self, kind: ScanKind, purpose: Purpose) -> Result<Went, NoMemory>
+    pub(crate) fn read_for(&mut self, kind: ScanKind, purpose: Purpose) -> Result<Went, NoMemory>
         ensures performs { Performs C.Cells (opened (reading.Scan kind purpose)) result self.new.cells.now self.new.desk.now self.old.cells.now self.old.desk.now }
         ensures same_cells { self.new.cells.ghost_name ≡ self.old.cells.ghost_name }
         ensures same_desk { self.new.desk.ghost_name ≡ self.old.desk.ghost_name }
