@@ -4,7 +4,23 @@ the rules alone: commands call one another, a scan is judged anew on the whole l
 group keeps a whole copy of the meanings.
 
 A token is kept as its text: `cCATEGORY:CODE` a character, `wHEX` a control sequence, `aCODE` an active character, `#N` a parameter. A
-meaning is a tuple that begins with `row`, `register`, `macro`, `char` or `number`."""
+meaning is a tuple that begins with `row`, `register`, `macro`, `char` or `number`.
+
+A case is the word `case`, set-up words, and then calls. Bytes are in hexadecimal digits; `_` is nothing. Set-up words:
+  steps=N mode=V|H|R job=HEX prefix=HEX         the steps that are left (100000), the mode, the main name, what stands before font files
+  file=HEXNAME:HEXBYTES                         a file of the world
+  text=HEX line=N name=HEX                      the text of the piece, the number of its first line (1), the name of its file (main.tex)
+  set=CELL:VALUE                                what a cell holds at the start: count.N dimen.N skip.N toks.N box.N (width, height, depth)
+                                                cat.CODE lc.CODE uc.CODE sf.CODE par.NAME counter.HEX pageform style size word.HEX active.CODE
+A meaning is row=HEX, macro=FLAGS;PATTERN;BODY (`-` or `l` for long, and `oTEXT` for the default of an optional first argument),
+char=CATEGORY.CODE, number=CODE, reg=CELL or none. The tokens of a pattern, a body or a token register are read from one line without an
+end, where `#1` to `#9` are parameters and `##` is one character.
+Calls, over one feeder: `n` the next token, `N` all up to the end or a fault (400 at most); `p`, `P` the same without expansion; `f` the
+next of this text; `i` `d` `g` `kHEX` a number, a dimension, glue, a keyword; `q` the quantity of the next token; `w` a text in braces,
+expanded to characters; `b` an expanded text behind its brace; `o` `c` open and close a group; `v` whether a conditional is open.
+An answer is ANSWER@HEXFILE:LINE/LEFT, with the place and the steps that are left behind it: a token, `end`, `number:N`, `dimen:N`,
+`skip:..`, `found1`, `notone`, `word:HEX`, `body:TOKEN,..`, `o`, `c`, `v1`, or `!KIND` for a fault, behind which nothing more is called.
+The lines of the log follow as `log:HEX`."""
 import gc
 import sys
 import threading
