@@ -1,4 +1,5 @@
 pub mod Cases
 pub mod CloseLemmas
 pub mod PassLemmas
+pub mod RegisterLemmas
 pub mod ScanLemmas

@@ -1,7 +1,8 @@
 -- What the open readings of a desk are.
-use Rattle.std.specs.Prelude.{[]}
+use Rattle.std.specs.Prelude.{Bool, false, List, [], ◌∷◌}
 use Rattle.lb_model.specs.declared.open.ReadingKind.TheVariants as reading
 use Rattle.lb_model.specs.Configs.{Reading}
+use Rattle.lb_model_book.specs.Expansion.{is_body}
 use Rattle.lb_expand.specs.declared.readings.Opened.{Opened}
 use Rattle.lb_expand.specs.declared.readings.Opened.TheVariants.{Scan, Word, Name, File, Body, Codes, Relation, Quantity, After, Held, The}
 
@@ -17,3 +18,8 @@ reading_of Quantity = record { kind = reading.Quantity; given = [] }
 reading_of (After tok) = record { kind = reading.After tok; given = [] }
 reading_of (Held tok) = record { kind = reading.Held tok; given = [] }
 reading_of The = record { kind = reading.The; given = [] }
+
+-- whether the innermost reading is of a body
+abbrev pub is_body_first : List Reading → Bool
+is_body_first [] = false
+is_body_first (r ∷ readings) = is_body r.kind

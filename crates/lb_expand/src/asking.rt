@@ -1,12 +1,14 @@
 //! Quantities that readings ask for, and texts in braces.
-ghost use Rattle.std.specs.Prelude.{◌≡◌, ◌∷◌, ◌++◌, [], Option, Some, unwrap_or};
+ghost use Rattle.std.specs.Prelude.{◌≡◌, ◌∷◌, ◌++◌, [], Option, map, Some, unwrap_or};
 ghost use Rattle.lb_base.specs.declared.token.Category.TheVariants as category;
 ghost use Rattle.lb_base.specs.declared.token.Tok.TheVariants.{Char as AChar};
 ghost use Rattle.lb_model.specs.declared.open.ReadingKind.TheVariants as reading;
 ghost use Rattle.lb_base.specs.declared.fault.Kind.TheVariants.{NumberMissing};
 ghost use Rattle.lb_model_grammar.specs.Dimensions.{meant};
+ghost use Rattle.lb_model_grammar.specs.Printed.{quantity_text};
 ghost use Rattle.lb_model_grammar.specs.Scans.{want_of};
-ghost use Rattle.lb_model_book.specs.Expansion.{font_size, kept, scan_as, internal_met, internal_to, more_to_read, opened, scan_quantity, tokens_met, with_reading, word_behind, word_opened};
+ghost use Rattle.lb_model_grammar.specs.declared.given.Given.TheVariants.{Tok as AToken};
+ghost use Rattle.lb_model_book.specs.Expansion.{as_text, doubled, font_size, kept, scan_as, internal_met, internal_to, more_to_read, opened, scan_quantity, tokens_met, with_reading, word_behind, word_opened};
 ghost use Rattle.lb_model_book.specs.Steps.{on, put, stopped};
 ghost use Rattle.lb_quantities.specs.Finds.{internal_of};
 ghost use Rattle.lb_expand.specs.Closings.{Closes, more_read};
@@ -27,7 +29,7 @@ use lb_print::quantity_text;
 use lb_quantities::{Found, internal};
 use lb_scan::Scan;
 use lb_values::{Meaning, Shared};
-use lb_words::WordText;
+use lb_words::{BodyText, WordText};
 use std::alloc::AllocError;
 
 impl<'a, C: Cells> Feeder<'a, C> {
@@ -153,5 +155,201 @@ impl<'a, C: Cells> Feeder<'a, C> {
                 None => Ok(Closed::Went(Went::Stopped(Kind::NumberMissing))),
             },
         }
+    }
+
+    // The tokens of a register are put before the rest.
+    #[tactic(auto, using(crate::proofs::PassLemmas::works_performs))]
+    fn put_register(&mut self, toks: Option<Shared<TokList>>) -> Result<Went, NoMemory>
+        ensures performs { Performs C.Cells (put (unwrap_or toks [])) result self.new.cells.now self.new.desk.now self.old.cells.now self.old.desk.now }
+        ensures same_cells { self.new.cells.ghost_name ≡ self.old.cells.ghost_name }
+        ensures same_desk { self.new.desk.ghost_name ≡ self.old.desk.ghost_name }
+    {
+        match toks {
+            None => put_none(self.desk),
+            Some(toks) => put_list(self.desk, toks),
+        }
+    }
+
+    // What `\the` prints of a quantity.
+    fn print_found(&mut self, quantity: Quantity) -> Result<Went, NoMemory>
+        ensures performs { Performs C.Cells (as_text (quantity_text quantity)) result self.new.cells.now self.new.desk.now self.old.cells.now self.old.desk.now }
+        ensures same_cells { self.new.cells.ghost_name ≡ self.old.cells.ghost_name }
+        ensures same_desk { self.new.desk.ghost_name ≡ self.old.desk.ghost_name }
+    {
+        let text = quantity_text(self.desk.alloc, quantity)?;
+        self.print_quantity(text)
+    }
+
+    // A scan asks for what begins with a token.
+    #[tactic(auto, using(crate::proofs::CloseLemmas::closes_went))]
+    fn ask_for_scan(
+        &mut self,
+        scan: Scan,
+        purpose: Purpose,
+        found: Found,
+    ) -> Result<Closed, NoMemory>
+        ensures closes { Closes C.Cells (internal_to (reading.Scan scan.kind purpose) scan.given (internal_of found)) result self.new.cells.now self.new.desk.now self.old.cells.now self.old.desk.now }
+        ensures same_cells { self.new.cells.ghost_name ≡ self.old.cells.ghost_name }
+        ensures same_desk { self.new.desk.ghost_name ≡ self.old.desk.ghost_name }
+    {
+        match found {
+            Found::Known(quantity) => self.scan_quantity(scan, purpose, quantity),
+            Found::Tokens(_toks) => self.scan_quantity(scan, purpose, Quantity::NotOne),
+            Found::Picked(indexed) => {
+                let went = self.wait_for(Opened::Scan(scan, purpose), Found::Picked(indexed))?;
+                Ok(Closed::Went(went))
+            }
+            Found::OfCounter => {
+                let went = self.wait_for(Opened::Scan(scan, purpose), Found::OfCounter)?;
+                Ok(Closed::Went(went))
+            }
+        }
+    }
+
+    // The caller asks for the quantity that begins with a token.
+    #[tactic(auto, using(crate::proofs::CloseLemmas::closes_went))]
+    fn ask_for_caller(&mut self, found: Found) -> Result<Closed, NoMemory>
+        ensures closes { Closes C.Cells (internal_to reading.Quantity [] (internal_of found)) result self.new.cells.now self.new.desk.now self.old.cells.now self.old.desk.now }
+        ensures same_cells { self.new.cells.ghost_name ≡ self.old.cells.ghost_name }
+        ensures same_desk { self.new.desk.ghost_name ≡ self.old.desk.ghost_name }
+    {
+        match found {
+            Found::Known(quantity) => Ok(Closed::Went(Went::Answered(Answer::Quantity(quantity)))),
+            Found::Tokens(_toks) => Ok(Closed::Went(Went::Answered(Answer::Quantity(
+                Quantity::NotOne,
+            )))),
+            Found::Picked(indexed) => {
+                let went = self.wait_for(Opened::Quantity, Found::Picked(indexed))?;
+                Ok(Closed::Went(went))
+            }
+            Found::OfCounter => {
+                let went = self.wait_for(Opened::Quantity, Found::OfCounter)?;
+                Ok(Closed::Went(went))
+            }
+        }
+    }
+
+    /// A body goes on.
+    #[tactic(auto, using(crate::proofs::PassLemmas::works_performs))]
+    pub(crate) fn keep_body(&mut self, text: BodyText) -> Result<Went, NoMemory>
+        ensures performs { Performs C.Cells (kept reading.Body text) result self.new.cells.now self.new.desk.now self.old.cells.now self.old.desk.now }
+        ensures same_cells { self.new.cells.ghost_name ≡ self.old.cells.ghost_name }
+        ensures same_desk { self.new.desk.ghost_name ≡ self.old.desk.ghost_name }
+    {
+        keep(self.desk, Opened::Body(text))
+    }
+
+    // `\the` asks for what begins with a token.
+    #[tactic(auto, using(crate::proofs::CloseLemmas::closes_went))]
+    fn ask_for_print(&mut self, found: Found) -> Result<Closed, NoMemory>
+        ensures closes { Closes C.Cells (internal_to reading.The [] (internal_of found)) result self.new.cells.now self.new.desk.now self.old.cells.now self.old.desk.now }
+        ensures same_cells { self.new.cells.ghost_name ≡ self.old.cells.ghost_name }
+        ensures same_desk { self.new.desk.ghost_name ≡ self.old.desk.ghost_name }
+    {
+        match found {
+            Found::Known(quantity) => {
+                let went = self.print_found(quantity)?;
+                Ok(Closed::Went(went))
+            }
+            Found::Tokens(toks) => {
+                let went = self.give_register(toks)?;
+                Ok(Closed::Went(went))
+            }
+            Found::Picked(indexed) => {
+                let went = self.wait_for(Opened::The, Found::Picked(indexed))?;
+                Ok(Closed::Went(went))
+            }
+            Found::OfCounter => {
+                let went = self.wait_for(Opened::The, Found::OfCounter)?;
+                Ok(Closed::Went(went))
+            }
+        }
+    }
+
+    // A body takes the tokens of a register as they are.
+    fn fill_body(&mut self, text: BodyText, toks: Option<Shared<TokList>>) -> Result<Went, NoMemory>
+        ensures performs { Performs C.Cells (kept reading.Body (text ++ map AToken (doubled (unwrap_or toks [])))) result self.new.cells.now self.new.desk.now self.old.cells.now self.old.desk.now }
+        ensures same_cells { self.new.cells.ghost_name ≡ self.old.cells.ghost_name }
+        ensures same_desk { self.new.desk.ghost_name ≡ self.old.desk.ghost_name }
+    {
+        match toks {
+            None => self.keep_body(text),
+            Some(toks) => {
+                let filled = text.take_all(toks.get().as_slice())?;
+                self.keep_body(filled)
+            }
+        }
+    }
+
+    // `\the` prints the tokens of a register, which a body takes as they are.
+    fn give_register(&mut self, toks: Option<Shared<TokList>>) -> Result<Went, NoMemory>
+        ensures performs { Performs C.Cells (λ c. tokens_met (unwrap_or toks []) c.readings c) result self.new.cells.now self.new.desk.now self.old.cells.now self.old.desk.now }
+        ensures same_cells { self.new.cells.ghost_name ≡ self.old.cells.ghost_name }
+        ensures same_desk { self.new.desk.ghost_name ≡ self.old.desk.ghost_name }
+    {
+        match self.desk.readings.take_body()? {
+            None => self.put_register(toks),
+            Some(text) => self.fill_body(text, toks),
+        }
+    }
+
+    // A reading asks for what begins with a token.
+    #[tactic(auto, using(crate::proofs::CloseLemmas::closes_went))]
+    fn ask(&mut self, opened: Opened, found: Found) -> Result<Closed, NoMemory>
+        ensures closes { Closes C.Cells (internal_to (reading_of opened).kind (reading_of opened).given (internal_of found)) result self.new.cells.now self.new.desk.now self.old.cells.now self.old.desk.now }
+        ensures same_cells { self.new.cells.ghost_name ≡ self.old.cells.ghost_name }
+        ensures same_desk { self.new.desk.ghost_name ≡ self.old.desk.ghost_name }
+    {
+        match opened {
+            Opened::Scan(scan, purpose) => self.ask_for_scan(scan, purpose, found),
+            Opened::The => self.ask_for_print(found),
+            Opened::Quantity => self.ask_for_caller(found),
+            Opened::Word(text, purpose) => {
+                let went = self.wait_for(Opened::Word(text, purpose), found)?;
+                Ok(Closed::Went(went))
+            }
+            Opened::Name(text) => {
+                let went = self.wait_for(Opened::Name(text), found)?;
+                Ok(Closed::Went(went))
+            }
+            Opened::File(text) => {
+                let went = self.wait_for(Opened::File(text), found)?;
+                Ok(Closed::Went(went))
+            }
+            Opened::Body(text) => {
+                let went = self.wait_for(Opened::Body(text), found)?;
+                Ok(Closed::Went(went))
+            }
+            Opened::Codes(pairing, first) => {
+                let went = self.wait_for(Opened::Codes(pairing, first), found)?;
+                Ok(Closed::Went(went))
+            }
+            Opened::Relation(compared, left) => {
+                let went = self.wait_for(Opened::Relation(compared, left), found)?;
+                Ok(Closed::Went(went))
+            }
+            Opened::After(tok) => {
+                let went = self.wait_for(Opened::After(tok), found)?;
+                Ok(Closed::Went(went))
+            }
+            Opened::Held(tok) => {
+                let went = self.wait_for(Opened::Held(tok), found)?;
+                Ok(Closed::Went(went))
+            }
+        }
+    }
+
+    /// A reading asks for what begins with a token of a meaning.
+    pub(crate) fn ask_of(
+        &mut self,
+        opened: Opened,
+        meaning: &Option<Meaning>,
+    ) -> Result<Closed, NoMemory>
+        ensures closes { Closes C.Cells (internal_met meaning.now (reading_of opened).kind (reading_of opened).given) result self.new.cells.now self.new.desk.now self.old.cells.now self.old.desk.now }
+        ensures same_cells { self.new.cells.ghost_name ≡ self.old.cells.ghost_name }
+        ensures same_desk { self.new.desk.ghost_name ≡ self.old.desk.ghost_name }
+    {
+        let found = internal(self.cells, meaning)?;
+        self.ask(opened, found)
     }
 }

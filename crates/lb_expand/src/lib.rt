@@ -6,6 +6,7 @@ mod closing;
 mod conditionals;
 mod desk;
 mod feeder;
+mod giving;
 mod putting;
 mod readings;
 mod taking;

@@ -1,7 +1,7 @@
 //! The readings that are open.
-ghost use Rattle.std.specs.Prelude.{◌≡◌, ◌∷◌, ◌<◌, [], OnOk, OnErr, MatchOption, nat_lt, true};
+ghost use Rattle.std.specs.Prelude.{◌≡◌, ◌∷◌, ◌<◌, [], IfOk, OnOk, OnErr, MatchOption, nat_lt, false, true};
 ghost use Rattle.lb_model_book.specs.Expansion.{counted, is_counted};
-ghost use Rattle.lb_expand.specs.Opens.{reading_of};
+ghost use Rattle.lb_expand.specs.Opens.{is_body_first, reading_of};
 
 use lb_base::{NoMemory, Tok};
 use lb_model::{Compared, Pairing, Purpose};
@@ -47,7 +47,7 @@ pub struct OpenReading {
 
 impl Model for OpenReading {
     ghost use Rattle.lb_model.specs.Configs.{Reading};
-    ghost use Rattle.lb_expand.specs.Opens.{reading_of};
+    ghost use Rattle.lb_expand.specs.Opens.{is_body_first, reading_of};
 
     ghost Value = { Reading };
 
@@ -134,5 +134,19 @@ impl Readings {
             self.count = self.count.saturating_sub(1);
         }
         Some(opened)
+    }
+
+    /// The innermost reading, where that is of a body, which is taken.
+    pub fn take_body(&mut self) -> Result<Option<BodyText>, NoMemory>
+        ensures { IfOk result (λ body. MatchOption body ((self.new ≡ self.old) × (is_body_first self.old ≡ false)) (λ text. self.old ≡ reading_of (Opened.Body text) ∷ self.new)) }
+    {
+        match self.take() {
+            None => Ok(None),
+            Some(Opened::Body(text)) => Ok(Some(text)),
+            Some(other) => {
+                self.put(other)?;
+                Ok(None)
+            }
+        }
     }
 }

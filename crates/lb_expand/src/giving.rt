@@ -1,0 +1,113 @@
+//! Tokens that are given to the texts that are read.
+ghost use Rattle.std.specs.Prelude.{◌≡◌, ◌∷◌, ◌++◌, [], map, if◌then◌else◌};
+ghost use Rattle.lb_base.specs.declared.fault.Kind.TheVariants.{TokenMisplaced};
+ghost use Rattle.lb_model_grammar.specs.declared.given.Given.TheVariants.{Tok as AToken};
+ghost use Rattle.lb_model_grammar.specs.Scans.{tokens_in};
+ghost use Rattle.lb_model_grammar.specs.Words.{body, character_code, file_name, is_character, word};
+ghost use Rattle.lb_model.specs.declared.open.ReadingKind.TheVariants as reading;
+ghost use Rattle.lb_model_book.specs.Expansion.{body_met, ends_name, file_met, input, kept, named, word_met};
+ghost use Rattle.lb_model_book.specs.Steps.{and_then, put, stopped};
+ghost use Rattle.lb_expand.specs.Closings.{Closes};
+ghost use Rattle.lb_expand.specs.Performs.{Performs};
+ghost use Rattle.lb_expand.specs.Works.{Leads, Works};
+
+use crate::closing::Closed;
+use crate::feeder::Feeder;
+use crate::putting::keep;
+use crate::readings::Opened;
+use lb_base::{Kind, NoMemory, Tok};
+use lb_model::{Cells, Purpose};
+use lb_model_book::{Answer, Went};
+use lb_rows::Command;
+use lb_values::Meaning;
+use lb_words::{BodyText, BodyTurn, NameText, WordText, WordTurn};
+
+fn is_character(tok: &Tok) -> bool
+    ensures { result ≡ is_character tok.now }
+{
+    matches!(tok, Tok::Char(_, _))
+}
+
+fn ends_name(meaning: &Option<Meaning>) -> bool
+    ensures { result ≡ ends_name meaning.now }
+{
+    matches!(meaning, Some(Meaning::Row(Command::EndCsName)))
+}
+
+impl<'a, C: Cells> Feeder<'a, C> {
+    #[tactic(auto, using(crate::proofs::PassLemmas::works_performs))]
+    fn keep_word(&mut self, text: WordText, purpose: Purpose) -> Result<Went, NoMemory>
+        ensures performs { Performs C.Cells (kept (reading.Word purpose) text) result self.new.cells.now self.new.desk.now self.old.cells.now self.old.desk.now }
+        ensures same_cells { self.new.cells.ghost_name ≡ self.old.cells.ghost_name }
+        ensures same_desk { self.new.desk.ghost_name ≡ self.old.desk.ghost_name }
+    {
+        keep(self.desk, Opened::Word(text, purpose))
+    }
+
+    #[tactic(auto, using(crate::proofs::PassLemmas::works_performs))]
+    fn keep_name(&mut self, text: NameText) -> Result<Went, NoMemory>
+        ensures performs { Performs C.Cells (kept reading.Name text) result self.new.cells.now self.new.desk.now self.old.cells.now self.old.desk.now }
+        ensures same_cells { self.new.cells.ghost_name ≡ self.old.cells.ghost_name }
+        ensures same_desk { self.new.desk.ghost_name ≡ self.old.desk.ghost_name }
+    {
+        keep(self.desk, Opened::Name(text))
+    }
+
+    // A text in braces is given a token.
+    #[tactic(auto, using(crate::proofs::CloseLemmas::closes_went))]
+    pub(crate) fn give_word(
+        &mut self,
+        text: WordText,
+        purpose: Purpose,
+        tok: &Tok,
+    ) -> Result<Closed, NoMemory>
+        ensures closes { Closes C.Cells (word_met (word 0 [] (text ++ AToken tok.now ∷ [])) purpose (text ++ AToken tok.now ∷ [])) result self.new.cells.now self.new.desk.now self.old.cells.now self.old.desk.now }
+        ensures same_cells { self.new.cells.ghost_name ≡ self.old.cells.ghost_name }
+        ensures same_desk { self.new.desk.ghost_name ≡ self.old.desk.ghost_name }
+    {
+        match text.take(tok)? {
+            WordTurn::Open(text) => {
+                let went = self.keep_word(text, purpose)?;
+                Ok(Closed::Went(went))
+            }
+            WordTurn::Ended(text) => self.close_word(purpose, text),
+            WordTurn::Wrong(kind) => Ok(Closed::Went(Went::Stopped(kind))),
+        }
+    }
+
+    // `\csname` is given a token.
+    pub(crate) fn give_name(
+        &mut self,
+        text: NameText,
+        meaning: &Option<Meaning>,
+        tok: &Tok,
+    ) -> Result<Went, NoMemory>
+        ensures performs { Performs C.Cells (λ c. if ends_name meaning.now then named (map character_code (tokens_in text)) c else (if is_character tok.now then kept reading.Name (text ++ AToken tok.now ∷ []) c else stopped TokenMisplaced c)) result self.new.cells.now self.new.desk.now self.old.cells.now self.old.desk.now }
+        ensures same_cells { self.new.cells.ghost_name ≡ self.old.cells.ghost_name }
+        ensures same_desk { self.new.desk.ghost_name ≡ self.old.desk.ghost_name }
+    {
+        if ends_name(meaning) {
+            let name = text.into_name(self.desk.alloc)?;
+            return self.end_name(name);
+        }
+        if !is_character(tok) {
+            return Ok(Went::Stopped(Kind::TokenMisplaced));
+        }
+        let mut text = text;
+        text.push(tok)?;
+        self.keep_name(text)
+    }
+
+    // A body is given a token.
+    pub(crate) fn give_body(&mut self, text: BodyText, tok: Tok) -> Result<Went, NoMemory>
+        ensures performs { Performs C.Cells (body_met (body 0 [] (text ++ AToken tok ∷ [])) (text ++ AToken tok ∷ [])) result self.new.cells.now self.new.desk.now self.old.cells.now self.old.desk.now }
+        ensures same_cells { self.new.cells.ghost_name ≡ self.old.cells.ghost_name }
+        ensures same_desk { self.new.desk.ghost_name ≡ self.old.desk.ghost_name }
+    {
+        match text.take(tok)? {
+            BodyTurn::Open(text) => self.keep_body(text),
+            BodyTurn::Ended(toks) => Ok(Went::Answered(Answer::Body(toks))),
+            BodyTurn::Wrong(kind) => Ok(Went::Stopped(kind)),
+        }
+    }
+}
