@@ -13,14 +13,15 @@ ghost use Rattle.lb_expand.specs.Works.{Leads, Works};
 
 use crate::closing::Closed;
 use crate::feeder::Feeder;
-use crate::putting::keep;
+use crate::putting::{keep, put_none, put_one, put_two};
 use crate::readings::Opened;
-use lb_base::{Kind, NoMemory, Tok};
+use lb_base::{Bytes, Kind, NoMemory, Tok};
 use lb_model::{Cells, Purpose};
 use lb_model_book::{Answer, Went};
+use lb_model_grammar::Given;
 use lb_rows::Command;
 use lb_values::Meaning;
-use lb_words::{BodyText, BodyTurn, NameText, WordText, WordTurn};
+use lb_words::{BodyText, BodyTurn, FileName, FileTurn, NameText, WordText, WordTurn};
 
 fn is_character(tok: &Tok) -> bool
     ensures { result ≡ is_character tok.now }
@@ -109,5 +110,85 @@ impl<'a, C: Cells> Feeder<'a, C> {
             BodyTurn::Ended(toks) => Ok(Went::Answered(Answer::Body(toks))),
             BodyTurn::Wrong(kind) => Ok(Went::Stopped(kind)),
         }
+    }
+
+    #[tactic(auto, using(crate::proofs::PassLemmas::works_performs))]
+    fn keep_file(&mut self, text: FileName) -> Result<Went, NoMemory>
+        ensures performs { Performs C.Cells (kept reading.File text) result self.new.cells.now self.new.desk.now self.old.cells.now self.old.desk.now }
+        ensures same_cells { self.new.cells.ghost_name ≡ self.old.cells.ghost_name }
+        ensures same_desk { self.new.desk.ghost_name ≡ self.old.desk.ghost_name }
+    {
+        keep(self.desk, Opened::File(text))
+    }
+
+    #[tactic(auto, using(crate::proofs::PassLemmas::works_performs))]
+    fn put_given(&mut self, given: Given) -> Result<Went, NoMemory>
+        ensures performs { Performs C.Cells (put (tokens_in (given ∷ []))) result self.new.cells.now self.new.desk.now self.old.cells.now self.old.desk.now }
+        ensures same_cells { self.new.cells.ghost_name ≡ self.old.cells.ghost_name }
+        ensures same_desk { self.new.desk.ghost_name ≡ self.old.desk.ghost_name }
+    {
+        match given {
+            Given::Tok(tok) => put_one(self.desk, tok),
+            Given::Quantity(_) => put_none(self.desk),
+            Given::End => put_none(self.desk),
+        }
+    }
+
+    // What is not of a file's name is put back, and the file is read.
+    fn input_before(&mut self, name: Bytes, given: Given) -> Result<Went, NoMemory>
+        ensures performs { Performs C.Cells (λ c. and_then (put (tokens_in (given ∷ [])) c) (input name)) result self.new.cells.now self.new.desk.now self.old.cells.now self.old.desk.now }
+        ensures same_cells { self.new.cells.ghost_name ≡ self.old.cells.ghost_name }
+        ensures same_desk { self.new.desk.ghost_name ≡ self.old.desk.ghost_name }
+    {
+        let went = self.put_given(given)?;
+        match went {
+            Went::On => self.input(name),
+            went => Ok(went),
+        }
+    }
+
+    // The name of a file has ended at a space.
+    fn input_at_once(&mut self, name: Bytes) -> Result<Went, NoMemory>
+        ensures performs { Performs C.Cells (λ c. and_then (put [] c) (input name)) result self.new.cells.now self.new.desk.now self.old.cells.now self.old.desk.now }
+        ensures same_cells { self.new.cells.ghost_name ≡ self.old.cells.ghost_name }
+        ensures same_desk { self.new.desk.ghost_name ≡ self.old.desk.ghost_name }
+    {
+        let went = self.put_nothing()?;
+        match went {
+            Went::On => self.input(name),
+            went => Ok(went),
+        }
+    }
+
+    #[tactic(auto, using(crate::proofs::PassLemmas::works_performs))]
+    fn put_nothing(&mut self) -> Result<Went, NoMemory>
+        ensures performs { Performs C.Cells (put []) result self.new.cells.now self.new.desk.now self.old.cells.now self.old.desk.now }
+        ensures same_cells { self.new.cells.ghost_name ≡ self.old.cells.ghost_name }
+        ensures same_desk { self.new.desk.ghost_name ≡ self.old.desk.ghost_name }
+    {
+        put_none(self.desk)
+    }
+
+    // The name of a file is given a token, or the end of the piece.
+    pub(crate) fn give_file(&mut self, text: FileName, given: Given) -> Result<Went, NoMemory>
+        ensures performs { Performs C.Cells (file_met (file_name [] (text ++ given ∷ [])) (text ++ given ∷ [])) result self.new.cells.now self.new.desk.now self.old.cells.now self.old.desk.now }
+        ensures same_cells { self.new.cells.ghost_name ≡ self.old.cells.ghost_name }
+        ensures same_desk { self.new.desk.ghost_name ≡ self.old.desk.ghost_name }
+    {
+        match text.take(given)? {
+            FileTurn::Open(text) => self.keep_file(text),
+            FileTurn::Ended(name) => self.input_at_once(name),
+            FileTurn::EndedBefore(name, given) => self.input_before(name, given),
+        }
+    }
+
+    // `\expandafter` puts its token before the one that it is given.
+    #[tactic(auto, using(crate::proofs::PassLemmas::works_performs))]
+    pub(crate) fn give_held(&mut self, held: Tok, tok: Tok) -> Result<Went, NoMemory>
+        ensures performs { Performs C.Cells (put (held ∷ tok ∷ [])) result self.new.cells.now self.new.desk.now self.old.cells.now self.old.desk.now }
+        ensures same_cells { self.new.cells.ghost_name ≡ self.old.cells.ghost_name }
+        ensures same_desk { self.new.desk.ghost_name ≡ self.old.desk.ghost_name }
+    {
+        put_two(self.desk, held, tok)
     }
 }

@@ -7,6 +7,7 @@ mod conditionals;
 mod desk;
 mod feeder;
 mod giving;
+mod pairs;
 mod putting;
 mod readings;
 mod taking;
