@@ -1,7 +1,7 @@
 -- `\ifcase` of numbers above 0 and below.
 use Rattle.std.proofs.Common.{◌≡◌, ◌<ℤ◌, ℤ, zero, suc, pos, negsuc, refl, arith}
 use Rattle.std.specs.Prelude.{nat_abs}
-use Rattle.lb_model_book.specs.Expansion.{case_of, skipped_case}
+use Rattle.lb_model_expansion.specs.Expansion.{case_of, skipped_case}
 
 pub case_above : (z : ℤ) → pos 0 <ℤ z → case_of z ≡ skipped_case (nat_abs z)
 case_above (pos zero) a = absurd (omega (arith, a))

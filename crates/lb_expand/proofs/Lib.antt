@@ -1,5 +1,10 @@
+pub mod BodyLemmas
 pub mod Cases
 pub mod CloseLemmas
+pub mod FontLemmas
 pub mod PassLemmas
+pub mod PlainLemmas
+pub mod RefusedLemmas
 pub mod RegisterLemmas
 pub mod ScanLemmas
+pub mod TurnLemmas

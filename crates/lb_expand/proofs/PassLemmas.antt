@@ -1,5 +1,5 @@
 -- Calls one after another: what is done and noted by all of them.
-use Rattle.std.proofs.Common.{◌≡◌, ◌∙◌, ◌++◌, ℕ, List, [], ◌∷◌, Some, None, ap, drop, refl, subst, sym}
+use Rattle.std.proofs.Common.{◌≡◌, ◌∙◌, ◌++◌, Bool, ℕ, List, [], ◌∷◌, Some, None, ap, drop, refl, subst, sym}
 use Rattle.std.specs.Prelude.{Option, Result, Ok, Err}
 use Rattle.std.specs.Option.{option_map}
 use Rattle.lb_base.specs.declared.fault.Kind.{Kind}
@@ -12,7 +12,7 @@ use Rattle.lb_model.specs.declared.group.Group.{Group}
 use Rattle.lb_model.specs.declared.open.Conditional.{Conditional}
 use Rattle.lb_model.specs.Conditionals.{inside}
 use Rattle.lb_model.specs.declared.place.Got.{Got}
-use Rattle.lb_model.specs.Configs.{Config, looks_of_plain, plain}
+use Rattle.lb_model.specs.Configs.{Config, Reading, looks_by, taken_by}
 use Rattle.lb_model.specs.Readings.{Took, failed, noting, whole}
 use Rattle.lb_model.specs.Settings.{Notes, Setting, noted, noted_all}
 use Rattle.lb_model.specs.Stacked.{Standing, StackedNotes, looked, looked_all, stacked_notes}
@@ -21,10 +21,10 @@ use Rattle.lb_model.specs.Told.{Told}
 use Rattle.lb_groups.proofs.StackedLemmas.{notes-looked}
 use Rattle.lb_model_grammar.specs.declared.condition.Sought.{Sought}
 use Rattle.lb_model_grammar.specs.declared.condition.Stopper.{Stopper}
-use Rattle.lb_model_book.specs.Expansion.{skipping, without_inside}
-use Rattle.lb_model_book.specs.Steps.{Performed, Step, and_as, and_then, looking, performed, stopped, token_as, token_taken, with_outcome}
-use Rattle.lb_model_book.specs.declared.expansion.Went.{Went}
-use Rattle.lb_model_book.specs.declared.expansion.Went.TheVariants.{On, Gave, Answered, Over, Stopped, StoppedAt}
+use Rattle.lb_model_expansion.specs.Expansion.{skipping, without_inside}
+use Rattle.lb_model_expansion.specs.Steps.{Performed, Step, and_as, and_then, ends_pass, looking, performed, stopped, token_as, token_taken, with_outcome}
+use Rattle.lb_model_expansion.specs.declared.expansion.Went.{Went}
+use Rattle.lb_model_expansion.specs.declared.expansion.Went.TheVariants.{On, Gave, Answered, Over, Stopped, StoppedAt}
 use Rattle.lb_expand.specs.Performs.{Passes, Performs}
 use Rattle.lb_expand.specs.Views.{config}
 use Rattle.lb_expand.specs.Works.{Leads, Works}
@@ -91,7 +91,7 @@ notes-looked-all groups (c ∷ cells) (Some n) =
 -- ---- What a feed reads
 
 -- the notes once cells are looked at
-looked_from : (groups_new groups_old : List Group) (looks : List Cell) (new old : Option Notes) → groups_new ≡ groups_old → option_map (noted_all looks) old ≡ new
+pub looked_from : (groups_new groups_old : List Group) (looks : List Cell) (new old : Option Notes) → groups_new ≡ groups_old → option_map (noted_all looks) old ≡ new
     → option_map (looked_all looks) (stacked_notes groups_old old) ≡ stacked_notes groups_new new
 looked_from groups_new groups_old looks new old groups notes =
     sym (notes-looked-all groups_old looks old) ∙ ap (stacked_notes groups_old) notes ∙ ap (λ g. stacked_notes g new) (sym groups)
@@ -166,26 +166,38 @@ pub performs-as : {S E X : Type 0} {C : Ghosts S} (act : X → Config → Perfor
     → x ≡ y → Performs C (act y) result new desk_new old desk_old → Performs C (act x) result new desk_new old desk_old
 performs-as {S} {E} {X} {C} act result {new} {desk_new} {old} {desk_old} e p = subst (λ z. Performs C (act z) result new desk_new old desk_old) (sym e) p
 
-standing-told : {S : Type 0} (C : Ghosts S) (new old : S) (groups_new groups_old : List Group) → Told C new old → groups_new ≡ groups_old
+pub standing-told : {S : Type 0} (C : Ghosts S) (new old : S) (groups_new groups_old : List Group) → Told C new old → groups_new ≡ groups_old
     → (p : Setting) → C.agrees new p → Standing groups_old (C.meaning old p) → Standing groups_new (C.meaning new p)
 standing-told C new old groups_new groups_old t g p h s = subst (λ k. Standing groups_new k) (sym (t.stays p h)) (subst (λ l. Standing l (C.meaning old p)) (sym g) s)
 
--- a token is taken, or its end or a fault
-pub takes-passes : {S : Type 0} (C : Ghosts S) (got : Got) (next : Tok → Config → Performed) {new : S} {desk_new : Desk} {old : S} {desk_old : Desk} → Told C new old
-    → ((p : Setting) → C.agrees new p → plain (config p.world (C.meaning old p) desk_old) ≡ record { got = got; next = config p.world (C.meaning new p) desk_new })
-    → ((p : Setting) → C.agrees new p → C.notes new ≡ option_map (noted_all (looks_of_plain (config p.world (C.meaning old p) desk_old))) (C.notes old))
-    → desk_new.groups ≡ desk_old.groups → Passes C (λ c. token_taken c next) (λ c. token_as got c next) new desk_new old desk_old
-takes-passes C got next {new} {desk_new} {old} {desk_old} told ok notes groups =
+-- a token is taken, or its end or a fault, and something is done with that
+pub gets-passes : {S : Type 0} (C : Ghosts S) (passes : Bool) (got : Got) (next : Got → Config → Performed) {new : S} {desk_new : Desk} {old : S} {desk_old : Desk} → Told C new old → passes ≡ ends_pass desk_old.readings
+    → ((p : Setting) → C.agrees new p → taken_by passes (config p.world (C.meaning old p) desk_old) ≡ record { got = got; next = config p.world (C.meaning new p) desk_new })
+    → ((p : Setting) → C.agrees new p → C.notes new ≡ option_map (noted_all (looks_by passes (config p.world (C.meaning old p) desk_old))) (C.notes old))
+    → desk_new.groups ≡ desk_old.groups
+    → Passes C (λ c. let t = taken_by (ends_pass c.readings) c in looking (looks_by (ends_pass c.readings) c) (next t.got t.next)) (next got) new desk_new old desk_old
+gets-passes C passes got next {new} {desk_new} {old} {desk_old} told is ok notes groups =
     record {
-      done = λ p h. ap (λ t. (token_as t.got t.next next).done) (ok p h);
+      done =
+          λ p h.
+          let c = config p.world (C.meaning old p) desk_old in
+          ap (λ t. (next t.got t.next).done) (ap (λ b. taken_by b c) (sym is) ∙ ok p h);
       notes =
           λ p h.
           let c = config p.world (C.meaning old p) desk_old in
-          ap (λ t. (token_as t.got t.next next).noted (option_map (looked_all (looks_of_plain c)) (stacked_notes desk_old.groups (C.notes old)))) (ok p h)
-          ∙ ap (λ n. (token_as got (config p.world (C.meaning new p) desk_new) next).noted n)
-          (looked_from desk_new.groups desk_old.groups (looks_of_plain c) (C.notes new) (C.notes old) groups (sym (notes p h)));
+          ap (λ b. let t = taken_by b c in (next t.got t.next).noted (option_map (looked_all (looks_by b c)) (stacked_notes desk_old.groups (C.notes old)))) (sym is)
+          ∙ ap (λ t. (next t.got t.next).noted (option_map (looked_all (looks_by passes c)) (stacked_notes desk_old.groups (C.notes old)))) (ok p h)
+          ∙ ap (λ n. (next got (config p.world (C.meaning new p) desk_new)).noted n)
+          (looked_from desk_new.groups desk_old.groups (looks_by passes c) (C.notes new) (C.notes old) groups (sym (notes p h)));
       standing = standing-told C new old desk_new.groups desk_old.groups told groups;
     }
+
+-- and this is done with a token
+pub takes-passes : {S : Type 0} (C : Ghosts S) (passes : Bool) (got : Got) (next : Tok → Config → Performed) {new : S} {desk_new : Desk} {old : S} {desk_old : Desk} → Told C new old → passes ≡ ends_pass desk_old.readings
+    → ((p : Setting) → C.agrees new p → taken_by passes (config p.world (C.meaning old p) desk_old) ≡ record { got = got; next = config p.world (C.meaning new p) desk_new })
+    → ((p : Setting) → C.agrees new p → C.notes new ≡ option_map (noted_all (looks_by passes (config p.world (C.meaning old p) desk_old))) (C.notes old))
+    → desk_new.groups ≡ desk_old.groups → Passes C (λ c. token_taken c next) (λ c. token_as got c next) new desk_new old desk_old
+takes-passes C passes got next told is ok notes groups = gets-passes C passes got (λ g d. token_as g d next) told is ok notes groups
 
 -- cells are looked at, and more is done
 pub told-passes : {S : Type 0} (C : Ghosts S) (cells : List Cell) (rest : Config → Performed) {new old : S} {desk : Desk} → Told C new old → C.notes new ≡ option_map (noted_all cells) (C.notes old)
@@ -310,4 +322,14 @@ same-passes C {act} {rest} {s} {desk} e =
       done = λ p h. ap (λ q. q.done) (e (config p.world (C.meaning s p) desk));
       notes = λ p h. ap (λ q. q.noted (stacked_notes desk.groups (C.notes s))) (e (config p.world (C.meaning s p) desk));
       standing = λ p h t. t;
+    }
+
+-- the innermost reading is taken
+pub taken-passes : {S : Type 0} (C : Ghosts S) (s : S) (act : List Reading → Config → Performed) (r : Reading) (old mid : Desk) → old ≡ record mid { readings = r ∷ mid.readings }
+    → Passes C (λ c. act c.readings c) (λ c. act (r ∷ c.readings) (record c { readings = r ∷ c.readings })) s mid s old
+taken-passes C s act r old mid e =
+    record {
+      done = λ p h. ap (λ (d : Desk). (act d.readings (config p.world (C.meaning s p) d)).done) e;
+      notes = λ p h. ap (λ (d : Desk). (act d.readings (config p.world (C.meaning s p) d)).noted (stacked_notes d.groups (C.notes s))) e;
+      standing = λ p h t. subst (λ (d : Desk). Standing d.groups (C.meaning s p)) e t;
     }

@@ -2,8 +2,8 @@
 use Rattle.std.proofs.Common.{◌≡◌, ◌∷◌, List, [], false, refl}
 use Rattle.lb_base.specs.declared.token.Tok.{Tok}
 use Rattle.lb_model.specs.Configs.{Config, Reading}
-use Rattle.lb_model_book.specs.Expansion.{is_body, tokens_met}
-use Rattle.lb_model_book.specs.Steps.{Performed, put}
+use Rattle.lb_model_expansion.specs.Expansion.{tokens_met}
+use Rattle.lb_model_expansion.specs.Steps.{Performed, is_body, put}
 use Rattle.lb_expand.specs.Opens.{is_body_first}
 use Rattle.std.specs.Prelude.{Bool, true, if◌then◌else◌}
 

@@ -11,8 +11,8 @@ use Rattle.lb_model_grammar.specs.declared.given.Want.{Want}
 use Rattle.lb_model_grammar.specs.declared.given.Want.TheVariants as want
 use Rattle.lb_model_grammar.specs.Scans.{Meant, after_of, value_of, want_of}
 use Rattle.lb_model_grammar.specs.Scans.Meant.{Open, Ended, Wrong}
-use Rattle.lb_model_book.specs.Expansion.{kept, scan_as, scan_closed}
-use Rattle.lb_model_book.specs.Steps.{Performed}
+use Rattle.lb_model_expansion.specs.Expansion.{kept, scan_as, scan_closed}
+use Rattle.lb_model_expansion.specs.Steps.{Performed}
 
 some-is : {X : Type 0} {x y : X} → Some x ≡ Some y → x ≡ y
 some-is e = cc
@@ -46,3 +46,37 @@ pub scan-ended : (m : Meant Scanned) (x : Scanned) (k : ScanKind) (purpose : Pur
 scan-ended (Open w) x k purpose given asked more c e = cc
 scan-ended (Ended y rest) x k purpose given asked more c e = ap (λ z. scan_closed purpose z (after_of (Ended y rest)) more c) (some-is e)
 scan-ended (Wrong kind) x k purpose given asked more c e = cc
+
+-- it asks for what begins with a token, or for a size of the present font
+pub scan-asks-quantity : (m : Meant Scanned) (k : ScanKind) (purpose : Purpose) (given : List Given) (asked : Want → Performed) (more : Internal → Config → Performed) (c : Config) → want_of m ≡ Some want.Quantity
+    → scan_as m k purpose given asked more c ≡ asked want.Quantity
+scan-asks-quantity (Open want.Expanded) k purpose given asked more c e = cc
+scan-asks-quantity (Open want.Plain) k purpose given asked more c e = cc
+scan-asks-quantity (Open want.Quantity) k purpose given asked more c e = refl
+scan-asks-quantity (Open want.Em) k purpose given asked more c e = cc
+scan-asks-quantity (Open want.Ex) k purpose given asked more c e = cc
+scan-asks-quantity (Open want.Done) k purpose given asked more c e = cc
+scan-asks-quantity (Ended x rest) k purpose given asked more c e = cc
+scan-asks-quantity (Wrong kind) k purpose given asked more c e = cc
+
+pub scan-asks-em : (m : Meant Scanned) (k : ScanKind) (purpose : Purpose) (given : List Given) (asked : Want → Performed) (more : Internal → Config → Performed) (c : Config) → want_of m ≡ Some want.Em
+    → scan_as m k purpose given asked more c ≡ asked want.Em
+scan-asks-em (Open want.Expanded) k purpose given asked more c e = cc
+scan-asks-em (Open want.Plain) k purpose given asked more c e = cc
+scan-asks-em (Open want.Quantity) k purpose given asked more c e = cc
+scan-asks-em (Open want.Em) k purpose given asked more c e = refl
+scan-asks-em (Open want.Ex) k purpose given asked more c e = cc
+scan-asks-em (Open want.Done) k purpose given asked more c e = cc
+scan-asks-em (Ended x rest) k purpose given asked more c e = cc
+scan-asks-em (Wrong kind) k purpose given asked more c e = cc
+
+pub scan-asks-ex : (m : Meant Scanned) (k : ScanKind) (purpose : Purpose) (given : List Given) (asked : Want → Performed) (more : Internal → Config → Performed) (c : Config) → want_of m ≡ Some want.Ex
+    → scan_as m k purpose given asked more c ≡ asked want.Ex
+scan-asks-ex (Open want.Expanded) k purpose given asked more c e = cc
+scan-asks-ex (Open want.Plain) k purpose given asked more c e = cc
+scan-asks-ex (Open want.Quantity) k purpose given asked more c e = cc
+scan-asks-ex (Open want.Em) k purpose given asked more c e = cc
+scan-asks-ex (Open want.Ex) k purpose given asked more c e = refl
+scan-asks-ex (Open want.Done) k purpose given asked more c e = cc
+scan-asks-ex (Ended x rest) k purpose given asked more c e = cc
+scan-asks-ex (Wrong kind) k purpose given asked more c e = cc

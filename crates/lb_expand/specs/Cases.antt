@@ -2,8 +2,8 @@
 use Rattle.lb_model.specs.declared.open.Conditional.TheVariants.{Case}
 use Rattle.lb_model.specs.Conditionals.{decided_as}
 use Rattle.lb_model.specs.Configs.{Config}
-use Rattle.lb_model_book.specs.Expansion.{skipped_case, with_conditionals}
-use Rattle.lb_model_book.specs.Steps.{Performed, on}
+use Rattle.lb_model_expansion.specs.Expansion.{skipped_case, with_conditionals}
+use Rattle.lb_model_expansion.specs.Steps.{Performed, on}
 use Rattle.lb_expand.specs.declared.conditionals.CaseTurn.{CaseTurn}
 use Rattle.lb_expand.specs.declared.conditionals.CaseTurn.TheVariants.{First, Past}
 

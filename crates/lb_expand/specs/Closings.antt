@@ -1,7 +1,8 @@
 -- Readings that close, and what becomes of what they read.
-use Rattle.std.specs.Prelude.{◌≡◌, ℕ, ℤ, pos, List, Option, is_some, Result, IfOk, if◌then◌else◌}
+use Rattle.std.specs.Prelude.{◌≡◌, ⊤, ℕ, ℤ, pos, List, [], Option, Some, None, is_some, Result, IfOk, if◌then◌else◌}
 use Rattle.std.specs.Option.{option_map}
 use Rattle.lb_base.specs.declared.fault.Kind.TheVariants.{TokenMisplaced}
+use Rattle.lb_base.specs.declared.token.Tok.{Tok}
 use Rattle.lb_rows.specs.declared.command.Command.TheVariants as command
 use Rattle.lb_values.specs.declared.cell.Cell.TheVariants as cell
 use Rattle.lb_values.specs.declared.meaning.Meaning.{Meaning}
@@ -10,8 +11,9 @@ use Rattle.lb_values.specs.declared.reach.Reach.TheVariants.{Local}
 use Rattle.lb_values.specs.declared.value.Form.TheVariants as form
 use Rattle.lb_values.specs.declared.value.Value.TheVariants as value
 use Rattle.lb_model.specs.Stacked.{assigned, notes_assigned}
-use Rattle.lb_model_book.specs.declared.expansion.Went.TheVariants.{On}
+use Rattle.lb_model_expansion.specs.declared.expansion.Went.TheVariants.{On}
 use Rattle.lb_model.specs.declared.cells.Cells.{Ghosts}
+use Rattle.lb_model.specs.declared.open.Pairing.{Pairing}
 use Rattle.lb_model.specs.declared.open.Purpose.{Purpose}
 use Rattle.lb_model.specs.declared.open.Purpose.TheVariants.{Roman, Left, Right, Odd, Case, Index, CounterValue}
 use Rattle.lb_model.specs.declared.open.ReadingKind.TheVariants as reading
@@ -24,8 +26,8 @@ use Rattle.lb_model_grammar.specs.declared.given.ScanKind.TheVariants as scan_ki
 use Rattle.lb_model.specs.Settings.{Setting}
 use Rattle.lb_model_grammar.specs.Conditionals.{chosen}
 use Rattle.lb_model_grammar.specs.declared.condition.CondKind.TheVariants.{IfOdd, IfCase}
-use Rattle.lb_model_book.specs.Expansion.{decided, in_form_or, index_closed, opened, opened_uncounted, picks, word_opened}
-use Rattle.lb_model_book.specs.Steps.{Performed, on, performed, stopped}
+use Rattle.lb_model_expansion.specs.Expansion.{decided, in_form_or, index_closed, internal_given, kept, opened, opened_uncounted, pair_kind, picks, seen_as, word_opened}
+use Rattle.lb_model_expansion.specs.Steps.{Performed, on, performed, stopped}
 use Rattle.lb_quantities.specs.Finds.{internal_of}
 use Rattle.lb_expand.specs.Performs.{Passes}
 use Rattle.lb_expand.specs.declared.closing.Closed.{Closed}
@@ -37,12 +39,30 @@ abbrev pub handed_on : Closed → (Internal → Config → Performed) → Config
 handed_on (Went went) more = performed went
 handed_on (Hands found) more = more (internal_of found)
 
--- a call over cells and a desk that closes a reading, whatever is done with the quantity that it hands on
+-- this holds where a quantity is handed on
+abbrev pub IfHands : Closed → Type 0 → Type 0
+IfHands (Went went) holds = ⊤
+IfHands (Hands found) holds = holds
+
+-- a call over cells and a desk that closes a reading, whatever is done with the quantity that it hands on; the readings around it stay
 pub record Closes {S E : Type 0} (C : Ghosts S) (act : (Internal → Config → Performed) → Config → Performed) (result : Result Closed E) (new : S) (desk_new : Desk) (old : S) (desk_old : Desk) : Type 0 where
   pub narrows : (p : Setting) → C.agrees new p → C.agrees old p
   pub passes : IfOk result (λ closed. (more : Internal → Config → Performed) → Passes C (act more) (handed_on closed more) new desk_new old desk_old)
+  pub keeps : IfOk result (λ closed. IfHands closed ((p : Setting) → C.agrees new p → desk_new.readings ≡ desk_old.readings))
   pub made : C.made new ≡ C.made old
   pub loan : C.loan new ≡ C.loan old
+
+-- a call over cells and a desk that does this, up to what becomes of a quantity that is handed on: it goes to the readings that are open then
+pub record Turns {S E : Type 0} (C : Ghosts S) (act : Config → Performed) (result : Result Closed E) (new : S) (desk_new : Desk) (old : S) (desk_old : Desk) : Type 0 where
+  pub narrows : (p : Setting) → C.agrees new p → C.agrees old p
+  pub passes : IfOk result (λ closed. Passes C act (λ c. handed_on closed (internal_given c.readings) c) new desk_new old desk_old)
+  pub made : C.made new ≡ C.made old
+  pub loan : C.loan new ≡ C.loan old
+
+-- a test of two tokens is given one
+abbrev pub pair_given : Option Meaning → Tok → Pairing → Option ℕ → Config → Performed
+pair_given m tok pairing None c = kept (reading.Codes pairing (Some (seen_as pairing tok m))) [] c
+pair_given m tok pairing (Some first) c = decided (chosen (pair_kind pairing) (pos first) (pos (seen_as pairing tok m))) c
 
 -- what becomes of a number once the tokens behind it are put back
 abbrev pub number_used : Purpose → ℤ → (Internal → Config → Performed) → Config → Performed

@@ -1,7 +1,10 @@
 pub mod Cases
 pub mod Closings
+pub mod Feeding
+pub mod Measures
 pub mod Opens
 pub mod Performs
 pub mod Tokens
+pub mod Turns
 pub mod Views
 pub mod Works

@@ -1,8 +1,8 @@
 -- What the open readings of a desk are.
-use Rattle.std.specs.Prelude.{Bool, false, List, [], ◌∷◌}
+use Rattle.std.specs.Prelude.{Bool, false, ℕ, suc, List, [], ◌∷◌, if◌then◌else◌}
 use Rattle.lb_model.specs.declared.open.ReadingKind.TheVariants as reading
 use Rattle.lb_model.specs.Configs.{Reading}
-use Rattle.lb_model_book.specs.Expansion.{is_body}
+use Rattle.lb_model_expansion.specs.Steps.{is_body}
 use Rattle.lb_expand.specs.declared.readings.Opened.{Opened}
 use Rattle.lb_expand.specs.declared.readings.Opened.TheVariants.{Scan, Word, Name, File, Body, Codes, Relation, Quantity, After, Held, The}
 
@@ -23,3 +23,8 @@ reading_of The = record { kind = reading.The; given = [] }
 abbrev pub is_body_first : List Reading → Bool
 is_body_first [] = false
 is_body_first (r ∷ readings) = is_body r.kind
+
+-- how many are of a body
+abbrev pub bodies_in : List Reading → ℕ
+bodies_in [] = 0
+bodies_in (r ∷ readings) = if is_body r.kind then suc (bodies_in readings) else bodies_in readings

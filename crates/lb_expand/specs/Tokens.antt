@@ -1,7 +1,7 @@
 -- A token that was taken, and what is done with it.
 use Rattle.lb_base.specs.declared.token.Tok.{Tok}
 use Rattle.lb_model.specs.Configs.{Config}
-use Rattle.lb_model_book.specs.Steps.{Performed, performed}
+use Rattle.lb_model_expansion.specs.Steps.{Performed, performed}
 use Rattle.lb_expand.specs.declared.taking.Taken.{Taken}
 use Rattle.lb_expand.specs.declared.taking.Taken.TheVariants as taken
 

@@ -6,8 +6,8 @@ use Rattle.lb_model.specs.Configs.{Config}
 use Rattle.lb_model.specs.Settings.{Notes}
 use Rattle.lb_model.specs.Stacked.{stacked_notes}
 use Rattle.lb_model.specs.declared.world.World.{World}
-use Rattle.lb_model_book.specs.Steps.{Performed, performed}
-use Rattle.lb_model_book.specs.declared.expansion.Went.{Went}
+use Rattle.lb_model_expansion.specs.Steps.{Performed, performed}
+use Rattle.lb_model_expansion.specs.declared.expansion.Went.{Went}
 use Rattle.lb_expand.specs.Views.{config}
 use Rattle.lb_expand.specs.declared.desk.Desk.{Desk}
 

@@ -8,13 +8,13 @@ ghost use Rattle.lb_model_grammar.specs.Conditionals.{chosen};
 ghost use Rattle.lb_values.specs.declared.cell.Cell.TheVariants as cells_of;
 ghost use Rattle.lb_model.specs.Conditionals.{comparison};
 ghost use Rattle.lb_model.specs.declared.open.ReadingKind.TheVariants as reading;
-ghost use Rattle.lb_model_book.specs.Expansion.{as_text, counter_form, counter_printed, counter_value, decided, in_form_or, index_closed, input, input_of, named, number_found, opened_uncounted, picks, relax_made, scan_closed, word_closed};
-ghost use Rattle.lb_model_book.specs.Steps.{and_then, answered, looking, put, put_then, stopped};
-ghost use Rattle.lb_model_book.specs.declared.expansion.Answer.TheVariants as answer;
-ghost use Rattle.lb_model_book.specs.declared.expansion.Went.TheVariants.{Answered as WasAnswered};
-ghost use Rattle.lb_expand.specs.Closings.{Closes, number_used, relax_if};
-ghost use Rattle.lb_expand.specs.Performs.{Performs};
+ghost use Rattle.lb_model_expansion.specs.Expansion.{as_text, counter_form, counter_printed, counter_value, decided, in_form_or, index_closed, input, input_of, named, number_found, opened_uncounted, picks, relax_made, scan_closed, word_closed};
+ghost use Rattle.lb_model_expansion.specs.Steps.{and_then, answered, looking, put, put_then, stopped};
+ghost use Rattle.lb_model_expansion.specs.declared.expansion.Answer.TheVariants as answer;
+ghost use Rattle.lb_model_expansion.specs.declared.expansion.Went.TheVariants.{Answered as WasAnswered};
+ghost use Rattle.lb_expand.specs.Closings.{number_used, relax_if};
 ghost use Rattle.lb_expand.specs.Works.{Leads, Works};
+ghost use Rattle.lb_expand.specs.Feeding.{ClosesOver, PerformsOver};
 
 use crate::feeder::Feeder;
 use crate::putting::{keep, put_list, put_none, put_one};
@@ -24,7 +24,7 @@ use lb_base::{Bytes, Kind, Name, NoMemory, Tok, TokList};
 use lb_cond::{comparison, test};
 use lb_groups::assign;
 use lb_model::{Append, Cells, Compared, Indexed, Purpose, reads};
-use lb_model_book::{Answer, Went};
+use lb_model_expansion::{Answer, Went};
 use lb_model_grammar::{CondKind, Quantity, Scanned};
 use lb_print::{decimal, in_form, printed};
 use lb_quantities::{Found, picked};
@@ -67,7 +67,7 @@ impl<'a, C: Cells> Feeder<'a, C> {
     /// Puts the tokens of a list before the rest.
     #[tactic(auto, using(crate::proofs::PassLemmas::works_performs))]
     pub(crate) fn put_tokens(&mut self, toks: TokList) -> Result<Went, NoMemory>
-        ensures performs { Performs C.Cells (put toks) result self.new.cells.now self.new.desk.now self.old.cells.now self.old.desk.now }
+        ensures performs { PerformsOver C.Cells (put toks) result self.new self.old }
         ensures same_cells { self.new.cells.ghost_name ≡ self.old.cells.ghost_name }
         ensures same_desk { self.new.desk.ghost_name ≡ self.old.desk.ghost_name }
     {
@@ -81,7 +81,7 @@ impl<'a, C: Cells> Feeder<'a, C> {
 
     /// Puts printed characters before the rest.
     pub(crate) fn print(&mut self, text: &[u8]) -> Result<Went, NoMemory>
-        ensures performs { Performs C.Cells (put (printed text.now)) result self.new.cells.now self.new.desk.now self.old.cells.now self.old.desk.now }
+        ensures performs { PerformsOver C.Cells (put (printed text.now)) result self.new self.old }
         ensures same_cells { self.new.cells.ghost_name ≡ self.old.cells.ghost_name }
         ensures same_desk { self.new.desk.ghost_name ≡ self.old.desk.ghost_name }
     {
@@ -91,7 +91,7 @@ impl<'a, C: Cells> Feeder<'a, C> {
 
     /// Prints a quantity, of which there has to be a text.
     pub(crate) fn print_quantity(&mut self, text: Option<Bytes>) -> Result<Went, NoMemory>
-        ensures performs { Performs C.Cells (as_text text) result self.new.cells.now self.new.desk.now self.old.cells.now self.old.desk.now }
+        ensures performs { PerformsOver C.Cells (as_text text) result self.new self.old }
         ensures same_cells { self.new.cells.ghost_name ≡ self.old.cells.ghost_name }
         ensures same_desk { self.new.desk.ghost_name ≡ self.old.desk.ghost_name }
     {
@@ -103,7 +103,7 @@ impl<'a, C: Cells> Feeder<'a, C> {
 
     // Prints a number in a form, which it must not be too large for.
     fn print_form(&mut self, text: Option<Bytes>) -> Result<Went, NoMemory>
-        ensures performs { Performs C.Cells (in_form_or text) result self.new.cells.now self.new.desk.now self.old.cells.now self.old.desk.now }
+        ensures performs { PerformsOver C.Cells (in_form_or text) result self.new self.old }
         ensures same_cells { self.new.cells.ghost_name ≡ self.old.cells.ghost_name }
         ensures same_desk { self.new.desk.ghost_name ≡ self.old.desk.ghost_name }
     {
@@ -115,7 +115,7 @@ impl<'a, C: Cells> Feeder<'a, C> {
 
     // Prints a number in its digits, and puts the tokens behind it back.
     fn print_digits(&mut self, number: i32, after: TokList) -> Result<Went, NoMemory>
-        ensures performs { Performs C.Cells (put (printed (signed_decimal number) ++ after)) result self.new.cells.now self.new.desk.now self.old.cells.now self.old.desk.now }
+        ensures performs { PerformsOver C.Cells (put (printed (signed_decimal number) ++ after)) result self.new self.old }
         ensures same_cells { self.new.cells.ghost_name ≡ self.old.cells.ghost_name }
         ensures same_desk { self.new.desk.ghost_name ≡ self.old.desk.ghost_name }
     {
@@ -129,7 +129,7 @@ impl<'a, C: Cells> Feeder<'a, C> {
 
     // A number is printed in a form, if there is one.
     fn print_number(&mut self, form: Form, number: Option<i32>) -> Result<Went, NoMemory>
-        ensures performs { Performs C.Cells (counter_form form number) result self.new.cells.now self.new.desk.now self.old.cells.now self.old.desk.now }
+        ensures performs { PerformsOver C.Cells (counter_form form number) result self.new self.old }
         ensures same_cells { self.new.cells.ghost_name ≡ self.old.cells.ghost_name }
         ensures same_desk { self.new.desk.ghost_name ≡ self.old.desk.ghost_name }
     {
@@ -144,7 +144,7 @@ impl<'a, C: Cells> Feeder<'a, C> {
 
     /// A counter is printed in a form.
     pub(crate) fn print_counter(&mut self, form: Form, name: Name) -> Result<Went, NoMemory>
-        ensures performs { Performs C.Cells (counter_printed form name) result self.new.cells.now self.new.desk.now self.old.cells.now self.old.desk.now }
+        ensures performs { PerformsOver C.Cells (counter_printed form name) result self.new self.old }
         ensures same_cells { self.new.cells.ghost_name ≡ self.old.cells.ghost_name }
         ensures same_desk { self.new.desk.ghost_name ≡ self.old.desk.ghost_name }
     {
@@ -154,7 +154,7 @@ impl<'a, C: Cells> Feeder<'a, C> {
 
     // The text of a file is read next, where there is one, and its name goes to the log.
     fn read_file(&mut self, file: Name, bytes: Option<Shared<Bytes>>) -> Result<Went, NoMemory>
-        ensures performs { Performs C.Cells (input_of bytes file) result self.new.cells.now self.new.desk.now self.old.cells.now self.old.desk.now }
+        ensures performs { PerformsOver C.Cells (input_of bytes file) result self.new self.old }
         ensures same_cells { self.new.cells.ghost_name ≡ self.old.cells.ghost_name }
         ensures same_desk { self.new.desk.ghost_name ≡ self.old.desk.ghost_name }
     {
@@ -181,7 +181,7 @@ impl<'a, C: Cells> Feeder<'a, C> {
 
     /// `\input` of a name.
     pub(crate) fn input(&mut self, name: Bytes) -> Result<Went, NoMemory>
-        ensures performs { Performs C.Cells (input name) result self.new.cells.now self.new.desk.now self.old.cells.now self.old.desk.now }
+        ensures performs { PerformsOver C.Cells (input name) result self.new self.old }
         ensures same_cells { self.new.cells.ghost_name ≡ self.old.cells.ghost_name }
         ensures same_desk { self.new.desk.ghost_name ≡ self.old.desk.ghost_name }
     {
@@ -192,7 +192,7 @@ impl<'a, C: Cells> Feeder<'a, C> {
 
     // A control sequence without meaning is made `\relax`.
     fn relax_if(&mut self, meaning: &Option<Meaning>, name: &Name) -> Result<Went, NoMemory>
-        ensures performs { Performs C.Cells (relax_if name.now meaning.now) result self.new.cells.now self.new.desk.now self.old.cells.now self.old.desk.now }
+        ensures performs { PerformsOver C.Cells (relax_if name.now meaning.now) result self.new self.old }
         ensures same_cells { self.new.cells.ghost_name ≡ self.old.cells.ghost_name }
         ensures same_desk { self.new.desk.ghost_name ≡ self.old.desk.ghost_name }
     {
@@ -215,7 +215,7 @@ impl<'a, C: Cells> Feeder<'a, C> {
 
     // The control sequence of a name is made `\relax` where it has no meaning.
     fn make_relax(&mut self, name: &Name) -> Result<Went, NoMemory>
-        ensures performs { Performs C.Cells (λ c. looking (cells_of.Word name.now ∷ []) (relax_made name.now c)) result self.new.cells.now self.new.desk.now self.old.cells.now self.old.desk.now }
+        ensures performs { PerformsOver C.Cells (λ c. looking (cells_of.Word name.now ∷ []) (relax_made name.now c)) result self.new self.old }
         ensures same_cells { self.new.cells.ghost_name ≡ self.old.cells.ghost_name }
         ensures same_desk { self.new.desk.ghost_name ≡ self.old.desk.ghost_name }
     {
@@ -226,7 +226,7 @@ impl<'a, C: Cells> Feeder<'a, C> {
 
     #[tactic(auto, using(crate::proofs::PassLemmas::works_performs))]
     fn put_name(&mut self, name: Name) -> Result<Went, NoMemory>
-        ensures performs { Performs C.Cells (put (AWord name ∷ [])) result self.new.cells.now self.new.desk.now self.old.cells.now self.old.desk.now }
+        ensures performs { PerformsOver C.Cells (put (AWord name ∷ [])) result self.new self.old }
         ensures same_cells { self.new.cells.ghost_name ≡ self.old.cells.ghost_name }
         ensures same_desk { self.new.desk.ghost_name ≡ self.old.desk.ghost_name }
     {
@@ -235,7 +235,7 @@ impl<'a, C: Cells> Feeder<'a, C> {
 
     /// `\csname` gives the control sequence of the name that was read.
     pub(crate) fn end_name(&mut self, name: Name) -> Result<Went, NoMemory>
-        ensures performs { Performs C.Cells (named name) result self.new.cells.now self.new.desk.now self.old.cells.now self.old.desk.now }
+        ensures performs { PerformsOver C.Cells (named name) result self.new self.old }
         ensures same_cells { self.new.cells.ghost_name ≡ self.old.cells.ghost_name }
         ensures same_desk { self.new.desk.ghost_name ≡ self.old.desk.ghost_name }
     {
@@ -248,7 +248,7 @@ impl<'a, C: Cells> Feeder<'a, C> {
 
     // A comparison chooses a part.
     fn choose(&mut self, kind: CondKind, left: i32, right: i32) -> Result<Went, NoMemory>
-        ensures performs { Performs C.Cells (decided (chosen kind left right)) result self.new.cells.now self.new.desk.now self.old.cells.now self.old.desk.now }
+        ensures performs { PerformsOver C.Cells (decided (chosen kind left right)) result self.new self.old }
         ensures same_cells { self.new.cells.ghost_name ≡ self.old.cells.ghost_name }
         ensures same_desk { self.new.desk.ghost_name ≡ self.old.desk.ghost_name }
     {
@@ -257,7 +257,7 @@ impl<'a, C: Cells> Feeder<'a, C> {
 
     // A number from 0 to 255 picks a quantity.
     fn pick(&mut self, indexed: Indexed, number: i32) -> Result<Closed, NoMemory>
-        ensures closes { Closes C.Cells (index_closed indexed (picks number)) result self.new.cells.now self.new.desk.now self.old.cells.now self.old.desk.now }
+        ensures closes { ClosesOver C.Cells (index_closed indexed (picks number)) result self.new self.old }
         ensures same_cells { self.new.cells.ghost_name ≡ self.old.cells.ghost_name }
         ensures same_desk { self.new.desk.ghost_name ≡ self.old.desk.ghost_name }
     {
@@ -272,7 +272,7 @@ impl<'a, C: Cells> Feeder<'a, C> {
 
     // The value of a counter is the quantity that is asked for, if there is one.
     fn hand_counter(&mut self, number: Option<i32>) -> Result<Closed, NoMemory>
-        ensures closes { Closes C.Cells (counter_value number) result self.new.cells.now self.new.desk.now self.old.cells.now self.old.desk.now }
+        ensures closes { ClosesOver C.Cells (counter_value number) result self.new self.old }
         ensures same_cells { self.new.cells.ghost_name ≡ self.old.cells.ghost_name }
         ensures same_desk { self.new.desk.ghost_name ≡ self.old.desk.ghost_name }
     {
@@ -284,7 +284,7 @@ impl<'a, C: Cells> Feeder<'a, C> {
 
     // The value of a counter is the quantity that is asked for.
     fn value_of_counter(&mut self, name: Name) -> Result<Closed, NoMemory>
-        ensures closes { Closes C.Cells (word_closed Purpose.CounterValue name) result self.new.cells.now self.new.desk.now self.old.cells.now self.old.desk.now }
+        ensures closes { ClosesOver C.Cells (word_closed Purpose.CounterValue name) result self.new self.old }
         ensures same_cells { self.new.cells.ghost_name ≡ self.old.cells.ghost_name }
         ensures same_desk { self.new.desk.ghost_name ≡ self.old.desk.ghost_name }
     {
@@ -295,7 +295,7 @@ impl<'a, C: Cells> Feeder<'a, C> {
     /// A text in braces was read.
     #[tactic(auto, using(crate::proofs::CloseLemmas::closes_went))]
     pub(crate) fn close_word(&mut self, purpose: Purpose, text: Bytes) -> Result<Closed, NoMemory>
-        ensures closes { Closes C.Cells (word_closed purpose text) result self.new.cells.now self.new.desk.now self.old.cells.now self.old.desk.now }
+        ensures closes { ClosesOver C.Cells (word_closed purpose text) result self.new self.old }
         ensures same_cells { self.new.cells.ghost_name ≡ self.old.cells.ghost_name }
         ensures same_desk { self.new.desk.ghost_name ≡ self.old.desk.ghost_name }
     {
@@ -326,7 +326,7 @@ impl<'a, C: Cells> Feeder<'a, C> {
 
     #[tactic(auto, using(crate::proofs::PassLemmas::works_performs))]
     fn read_relation(&mut self, compared: Compared, left: i32) -> Result<Went, NoMemory>
-        ensures performs { Performs C.Cells (opened_uncounted (reading.Relation compared left)) result self.new.cells.now self.new.desk.now self.old.cells.now self.old.desk.now }
+        ensures performs { PerformsOver C.Cells (opened_uncounted (reading.Relation compared left)) result self.new self.old }
         ensures same_cells { self.new.cells.ghost_name ≡ self.old.cells.ghost_name }
         ensures same_desk { self.new.desk.ghost_name ≡ self.old.desk.ghost_name }
     {
@@ -336,7 +336,7 @@ impl<'a, C: Cells> Feeder<'a, C> {
     // A number is used once the tokens behind it are put back.
     #[tactic(auto, using(crate::proofs::CloseLemmas::closes_went))]
     fn use_number(&mut self, purpose: Purpose, number: i32) -> Result<Closed, NoMemory>
-        ensures closes { Closes C.Cells (number_used purpose number) result self.new.cells.now self.new.desk.now self.old.cells.now self.old.desk.now }
+        ensures closes { ClosesOver C.Cells (number_used purpose number) result self.new self.old }
         ensures same_cells { self.new.cells.ghost_name ≡ self.old.cells.ghost_name }
         ensures same_desk { self.new.desk.ghost_name ≡ self.old.desk.ghost_name }
     {
@@ -378,7 +378,7 @@ impl<'a, C: Cells> Feeder<'a, C> {
         found: &Scanned,
         after: TokList,
     ) -> Result<Closed, NoMemory>
-        ensures closes { Closes C.Cells (λ more c. and_then (put after c) (number_used purpose (number_found found.now) more)) result self.new.cells.now self.new.desk.now self.old.cells.now self.old.desk.now }
+        ensures closes { ClosesOver C.Cells (λ more c. and_then (put after c) (number_used purpose (number_found found.now) more)) result self.new self.old }
         ensures same_cells { self.new.cells.ghost_name ≡ self.old.cells.ghost_name }
         ensures same_desk { self.new.desk.ghost_name ≡ self.old.desk.ghost_name }
     {
@@ -391,7 +391,7 @@ impl<'a, C: Cells> Feeder<'a, C> {
 
     // The caller is answered what a scan found, and the tokens behind it are put back.
     fn answer_scan(&mut self, found: Scanned, after: TokList) -> Result<Went, NoMemory>
-        ensures performs { Performs C.Cells (put_then after (WasAnswered (answer.Scanned found))) result self.new.cells.now self.new.desk.now self.old.cells.now self.old.desk.now }
+        ensures performs { PerformsOver C.Cells (put_then after (WasAnswered (answer.Scanned found))) result self.new self.old }
         ensures same_cells { self.new.cells.ghost_name ≡ self.old.cells.ghost_name }
         ensures same_desk { self.new.desk.ghost_name ≡ self.old.desk.ghost_name }
     {
@@ -410,7 +410,7 @@ impl<'a, C: Cells> Feeder<'a, C> {
         found: Scanned,
         after: TokList,
     ) -> Result<Closed, NoMemory>
-        ensures closes { Closes C.Cells (scan_closed purpose found after) result self.new.cells.now self.new.desk.now self.old.cells.now self.old.desk.now }
+        ensures closes { ClosesOver C.Cells (scan_closed purpose found after) result self.new self.old }
         ensures same_cells { self.new.cells.ghost_name ≡ self.old.cells.ghost_name }
         ensures same_desk { self.new.desk.ghost_name ≡ self.old.desk.ghost_name }
     {

@@ -2,12 +2,12 @@
 ghost use Rattle.std.specs.Prelude.{◌≡◌, ◌∷◌, [], codes};
 ghost use Rattle.lb_base.specs.declared.fault.Kind.TheVariants.{ExtraFi};
 ghost use Rattle.lb_model.specs.Conditionals.{decided_as, inside, passed};
-ghost use Rattle.lb_model_book.specs.Expansion.{case_of, decided, part_ended, part_left, part_met, skipped_case, skipped_false, skipped_rest, stopped_at, with_conditionals};
+ghost use Rattle.lb_model_expansion.specs.Expansion.{case_of, decided, part_ended, part_left, part_met, skipped_case, skipped_false, skipped_rest, stopped_at, with_conditionals};
 ghost use Rattle.lb_base.specs.declared.token.Tok.{Tok as AToken};
-ghost use Rattle.lb_model_book.specs.Steps.{on, put, stopped};
+ghost use Rattle.lb_model_expansion.specs.Steps.{on, put, stopped};
 ghost use Rattle.lb_expand.specs.Cases.{case_turned};
-ghost use Rattle.lb_expand.specs.Performs.{Performs};
 ghost use Rattle.lb_expand.specs.Works.{Leads, Works};
+ghost use Rattle.lb_expand.specs.Feeding.{PerformsOver};
 
 use crate::desk::Desk;
 use crate::feeder::Feeder;
@@ -15,7 +15,7 @@ use crate::putting::put_two;
 use lb_base::{Kind, Name, NoMemory, Stop, Tok};
 use lb_cond::{may_end, skip_to};
 use lb_model::{Cells, Conditional};
-use lb_model_book::Went;
+use lb_model_expansion::Went;
 use lb_model_grammar::{Branch, Sought, Stopper};
 use std::alloc::AllocError;
 
@@ -76,7 +76,7 @@ fn put_relax(desk: &mut Desk, tok: Tok) -> Result<Went, NoMemory>
 impl<'a, C: Cells> Feeder<'a, C> {
     // The innermost conditional is closed.
     fn close_conditional(&mut self) -> Result<Went, NoMemory>
-        ensures performs { Performs C.Cells (λ c. on (with_conditionals (passed Stopper.Fi c.conditionals) c)) result self.new.cells.now self.new.desk.now self.old.cells.now self.old.desk.now }
+        ensures performs { PerformsOver C.Cells (λ c. on (with_conditionals (passed Stopper.Fi c.conditionals) c)) result self.new self.old }
         ensures same_cells { self.new.cells.ghost_name ≡ self.old.cells.ghost_name }
         ensures same_desk { self.new.desk.ghost_name ≡ self.old.desk.ghost_name }
     {
@@ -86,7 +86,7 @@ impl<'a, C: Cells> Feeder<'a, C> {
 
     // A part of the conditional whose condition is read is read from now on.
     fn decide(&mut self, part: Conditional) -> Result<Went, NoMemory>
-        ensures performs { Performs C.Cells (λ c. on (with_conditionals (decided_as part c.conditionals) c)) result self.new.cells.now self.new.desk.now self.old.cells.now self.old.desk.now }
+        ensures performs { PerformsOver C.Cells (λ c. on (with_conditionals (decided_as part c.conditionals) c)) result self.new self.old }
         ensures same_cells { self.new.cells.ghost_name ≡ self.old.cells.ghost_name }
         ensures same_desk { self.new.desk.ghost_name ≡ self.old.desk.ghost_name }
     {
@@ -97,7 +97,7 @@ impl<'a, C: Cells> Feeder<'a, C> {
 
     // The text of a false test is skipped.
     fn skip_false(&mut self) -> Result<Went, NoMemory>
-        ensures performs { Performs C.Cells skipped_false result self.new.cells.now self.new.desk.now self.old.cells.now self.old.desk.now }
+        ensures performs { PerformsOver C.Cells skipped_false result self.new self.old }
         ensures same_cells { self.new.cells.ghost_name ≡ self.old.cells.ghost_name }
         ensures same_desk { self.new.desk.ghost_name ≡ self.old.desk.ghost_name }
     {
@@ -111,7 +111,7 @@ impl<'a, C: Cells> Feeder<'a, C> {
 
     // Text is skipped past so many `\or`, or where that is 0 past all of them.
     fn skip_case(&mut self, count: u64) -> Result<Went, NoMemory>
-        ensures performs { Performs C.Cells (skipped_case count) result self.new.cells.now self.new.desk.now self.old.cells.now self.old.desk.now }
+        ensures performs { PerformsOver C.Cells (skipped_case count) result self.new self.old }
         ensures same_cells { self.new.cells.ghost_name ≡ self.old.cells.ghost_name }
         ensures same_desk { self.new.desk.ghost_name ≡ self.old.desk.ghost_name }
     {
@@ -125,7 +125,7 @@ impl<'a, C: Cells> Feeder<'a, C> {
 
     // Text is skipped behind a part that was read.
     fn skip_rest(&mut self) -> Result<Went, NoMemory>
-        ensures performs { Performs C.Cells (skipped_rest) result self.new.cells.now self.new.desk.now self.old.cells.now self.old.desk.now }
+        ensures performs { PerformsOver C.Cells (skipped_rest) result self.new self.old }
         ensures same_cells { self.new.cells.ghost_name ≡ self.old.cells.ghost_name }
         ensures same_desk { self.new.desk.ghost_name ≡ self.old.desk.ghost_name }
     {
@@ -138,7 +138,7 @@ impl<'a, C: Cells> Feeder<'a, C> {
 
     // `\ifcase` goes on.
     fn begin_case(&mut self, turn: CaseTurn) -> Result<Went, NoMemory>
-        ensures performs { Performs C.Cells (case_turned turn) result self.new.cells.now self.new.desk.now self.old.cells.now self.old.desk.now }
+        ensures performs { PerformsOver C.Cells (case_turned turn) result self.new self.old }
         ensures same_cells { self.new.cells.ghost_name ≡ self.old.cells.ghost_name }
         ensures same_desk { self.new.desk.ghost_name ≡ self.old.desk.ghost_name }
     {
@@ -150,7 +150,7 @@ impl<'a, C: Cells> Feeder<'a, C> {
 
     /// The part that a test chose is read from now on.
     pub(crate) fn begin_part(&mut self, branch: Branch) -> Result<Went, NoMemory>
-        ensures performs { Performs C.Cells (decided branch) result self.new.cells.now self.new.desk.now self.old.cells.now self.old.desk.now }
+        ensures performs { PerformsOver C.Cells (decided branch) result self.new self.old }
         ensures same_cells { self.new.cells.ghost_name ≡ self.old.cells.ghost_name }
         ensures same_desk { self.new.desk.ghost_name ≡ self.old.desk.ghost_name }
     {
@@ -163,7 +163,7 @@ impl<'a, C: Cells> Feeder<'a, C> {
 
     // A part ends, if it may end so.
     fn end_part(&mut self, stopper: Stopper, part: Conditional) -> Result<Went, NoMemory>
-        ensures performs { Performs C.Cells (part_left stopper part) result self.new.cells.now self.new.desk.now self.old.cells.now self.old.desk.now }
+        ensures performs { PerformsOver C.Cells (part_left stopper part) result self.new self.old }
         ensures same_cells { self.new.cells.ghost_name ≡ self.old.cells.ghost_name }
         ensures same_desk { self.new.desk.ghost_name ≡ self.old.desk.ghost_name }
     {
@@ -179,7 +179,7 @@ impl<'a, C: Cells> Feeder<'a, C> {
 
     /// `\or`, `\else` and `\fi`: while a condition is read a `\relax` comes before; else a part ends, if it may end so.
     pub(crate) fn meet_part(&mut self, stopper: Stopper, tok: Tok) -> Result<Went, NoMemory>
-        ensures performs { Performs C.Cells (λ c. part_met stopper tok c.conditionals c) result self.new.cells.now self.new.desk.now self.old.cells.now self.old.desk.now }
+        ensures performs { PerformsOver C.Cells (λ c. part_met stopper tok c.conditionals c) result self.new self.old }
         ensures same_cells { self.new.cells.ghost_name ≡ self.old.cells.ghost_name }
         ensures same_desk { self.new.desk.ghost_name ≡ self.old.desk.ghost_name }
     {

@@ -4,12 +4,12 @@ ghost use Rattle.lb_base.specs.declared.fault.Kind.TheVariants.{TokenMisplaced};
 ghost use Rattle.lb_model_grammar.specs.declared.given.Given.TheVariants.{Tok as AToken};
 ghost use Rattle.lb_model_grammar.specs.Scans.{tokens_in};
 ghost use Rattle.lb_model_grammar.specs.Words.{body, character_code, file_name, is_character, word};
+ghost use Rattle.lb_model.specs.Lines.{is_empty};
 ghost use Rattle.lb_model.specs.declared.open.ReadingKind.TheVariants as reading;
-ghost use Rattle.lb_model_book.specs.Expansion.{body_met, ends_name, file_met, input, kept, named, word_met};
-ghost use Rattle.lb_model_book.specs.Steps.{and_then, put, stopped};
-ghost use Rattle.lb_expand.specs.Closings.{Closes};
-ghost use Rattle.lb_expand.specs.Performs.{Performs};
+ghost use Rattle.lb_model_expansion.specs.Expansion.{body_met, ends_name, file_given, input, kept, named, word_met};
+ghost use Rattle.lb_model_expansion.specs.Steps.{and_then, put, stopped};
 ghost use Rattle.lb_expand.specs.Works.{Leads, Works};
+ghost use Rattle.lb_expand.specs.Feeding.{ClosesOver, PerformsOver};
 
 use crate::closing::Closed;
 use crate::feeder::Feeder;
@@ -17,7 +17,7 @@ use crate::putting::{keep, put_none, put_one, put_two};
 use crate::readings::Opened;
 use lb_base::{Bytes, Kind, NoMemory, Tok};
 use lb_model::{Cells, Purpose};
-use lb_model_book::{Answer, Went};
+use lb_model_expansion::{Answer, Went};
 use lb_model_grammar::Given;
 use lb_rows::Command;
 use lb_values::Meaning;
@@ -35,10 +35,16 @@ fn ends_name(meaning: &Option<Meaning>) -> bool
     matches!(meaning, Some(Meaning::Row(Command::EndCsName)))
 }
 
+fn is_empty(text: &[u8]) -> bool
+    ensures { result ≡ is_empty text.now }
+{
+    text.is_empty()
+}
+
 impl<'a, C: Cells> Feeder<'a, C> {
     #[tactic(auto, using(crate::proofs::PassLemmas::works_performs))]
     fn keep_word(&mut self, text: WordText, purpose: Purpose) -> Result<Went, NoMemory>
-        ensures performs { Performs C.Cells (kept (reading.Word purpose) text) result self.new.cells.now self.new.desk.now self.old.cells.now self.old.desk.now }
+        ensures performs { PerformsOver C.Cells (kept (reading.Word purpose) text) result self.new self.old }
         ensures same_cells { self.new.cells.ghost_name ≡ self.old.cells.ghost_name }
         ensures same_desk { self.new.desk.ghost_name ≡ self.old.desk.ghost_name }
     {
@@ -47,7 +53,7 @@ impl<'a, C: Cells> Feeder<'a, C> {
 
     #[tactic(auto, using(crate::proofs::PassLemmas::works_performs))]
     fn keep_name(&mut self, text: NameText) -> Result<Went, NoMemory>
-        ensures performs { Performs C.Cells (kept reading.Name text) result self.new.cells.now self.new.desk.now self.old.cells.now self.old.desk.now }
+        ensures performs { PerformsOver C.Cells (kept reading.Name text) result self.new self.old }
         ensures same_cells { self.new.cells.ghost_name ≡ self.old.cells.ghost_name }
         ensures same_desk { self.new.desk.ghost_name ≡ self.old.desk.ghost_name }
     {
@@ -62,7 +68,7 @@ impl<'a, C: Cells> Feeder<'a, C> {
         purpose: Purpose,
         tok: &Tok,
     ) -> Result<Closed, NoMemory>
-        ensures closes { Closes C.Cells (word_met (word 0 [] (text ++ AToken tok.now ∷ [])) purpose (text ++ AToken tok.now ∷ [])) result self.new.cells.now self.new.desk.now self.old.cells.now self.old.desk.now }
+        ensures closes { ClosesOver C.Cells (word_met (word 0 [] (text ++ AToken tok.now ∷ [])) purpose (text ++ AToken tok.now ∷ [])) result self.new self.old }
         ensures same_cells { self.new.cells.ghost_name ≡ self.old.cells.ghost_name }
         ensures same_desk { self.new.desk.ghost_name ≡ self.old.desk.ghost_name }
     {
@@ -83,7 +89,7 @@ impl<'a, C: Cells> Feeder<'a, C> {
         meaning: &Option<Meaning>,
         tok: &Tok,
     ) -> Result<Went, NoMemory>
-        ensures performs { Performs C.Cells (λ c. if ends_name meaning.now then named (map character_code (tokens_in text)) c else (if is_character tok.now then kept reading.Name (text ++ AToken tok.now ∷ []) c else stopped TokenMisplaced c)) result self.new.cells.now self.new.desk.now self.old.cells.now self.old.desk.now }
+        ensures performs { PerformsOver C.Cells (λ c. if ends_name meaning.now then named (map character_code (tokens_in text)) c else (if is_character tok.now then kept reading.Name (text ++ AToken tok.now ∷ []) c else stopped TokenMisplaced c)) result self.new self.old }
         ensures same_cells { self.new.cells.ghost_name ≡ self.old.cells.ghost_name }
         ensures same_desk { self.new.desk.ghost_name ≡ self.old.desk.ghost_name }
     {
@@ -101,7 +107,7 @@ impl<'a, C: Cells> Feeder<'a, C> {
 
     // A body is given a token.
     pub(crate) fn give_body(&mut self, text: BodyText, tok: Tok) -> Result<Went, NoMemory>
-        ensures performs { Performs C.Cells (body_met (body 0 [] (text ++ AToken tok ∷ [])) (text ++ AToken tok ∷ [])) result self.new.cells.now self.new.desk.now self.old.cells.now self.old.desk.now }
+        ensures performs { PerformsOver C.Cells (body_met (body 0 [] (text ++ AToken tok ∷ [])) (text ++ AToken tok ∷ [])) result self.new self.old }
         ensures same_cells { self.new.cells.ghost_name ≡ self.old.cells.ghost_name }
         ensures same_desk { self.new.desk.ghost_name ≡ self.old.desk.ghost_name }
     {
@@ -114,7 +120,7 @@ impl<'a, C: Cells> Feeder<'a, C> {
 
     #[tactic(auto, using(crate::proofs::PassLemmas::works_performs))]
     fn keep_file(&mut self, text: FileName) -> Result<Went, NoMemory>
-        ensures performs { Performs C.Cells (kept reading.File text) result self.new.cells.now self.new.desk.now self.old.cells.now self.old.desk.now }
+        ensures performs { PerformsOver C.Cells (kept reading.File text) result self.new self.old }
         ensures same_cells { self.new.cells.ghost_name ≡ self.old.cells.ghost_name }
         ensures same_desk { self.new.desk.ghost_name ≡ self.old.desk.ghost_name }
     {
@@ -123,7 +129,7 @@ impl<'a, C: Cells> Feeder<'a, C> {
 
     #[tactic(auto, using(crate::proofs::PassLemmas::works_performs))]
     fn put_given(&mut self, given: Given) -> Result<Went, NoMemory>
-        ensures performs { Performs C.Cells (put (tokens_in (given ∷ []))) result self.new.cells.now self.new.desk.now self.old.cells.now self.old.desk.now }
+        ensures performs { PerformsOver C.Cells (put (tokens_in (given ∷ []))) result self.new self.old }
         ensures same_cells { self.new.cells.ghost_name ≡ self.old.cells.ghost_name }
         ensures same_desk { self.new.desk.ghost_name ≡ self.old.desk.ghost_name }
     {
@@ -136,7 +142,7 @@ impl<'a, C: Cells> Feeder<'a, C> {
 
     // What is not of a file's name is put back, and the file is read.
     fn input_before(&mut self, name: Bytes, given: Given) -> Result<Went, NoMemory>
-        ensures performs { Performs C.Cells (λ c. and_then (put (tokens_in (given ∷ [])) c) (input name)) result self.new.cells.now self.new.desk.now self.old.cells.now self.old.desk.now }
+        ensures performs { PerformsOver C.Cells (λ c. and_then (put (tokens_in (given ∷ [])) c) (input name)) result self.new self.old }
         ensures same_cells { self.new.cells.ghost_name ≡ self.old.cells.ghost_name }
         ensures same_desk { self.new.desk.ghost_name ≡ self.old.desk.ghost_name }
     {
@@ -149,7 +155,7 @@ impl<'a, C: Cells> Feeder<'a, C> {
 
     // The name of a file has ended at a space.
     fn input_at_once(&mut self, name: Bytes) -> Result<Went, NoMemory>
-        ensures performs { Performs C.Cells (λ c. and_then (put [] c) (input name)) result self.new.cells.now self.new.desk.now self.old.cells.now self.old.desk.now }
+        ensures performs { PerformsOver C.Cells (λ c. and_then (put [] c) (input name)) result self.new self.old }
         ensures same_cells { self.new.cells.ghost_name ≡ self.old.cells.ghost_name }
         ensures same_desk { self.new.desk.ghost_name ≡ self.old.desk.ghost_name }
     {
@@ -162,22 +168,44 @@ impl<'a, C: Cells> Feeder<'a, C> {
 
     #[tactic(auto, using(crate::proofs::PassLemmas::works_performs))]
     fn put_nothing(&mut self) -> Result<Went, NoMemory>
-        ensures performs { Performs C.Cells (put []) result self.new.cells.now self.new.desk.now self.old.cells.now self.old.desk.now }
+        ensures performs { PerformsOver C.Cells (put []) result self.new self.old }
         ensures same_cells { self.new.cells.ghost_name ≡ self.old.cells.ghost_name }
         ensures same_desk { self.new.desk.ghost_name ≡ self.old.desk.ghost_name }
     {
         put_none(self.desk)
     }
 
-    // The name of a file is given a token, or the end of the piece.
-    pub(crate) fn give_file(&mut self, text: FileName, given: Given) -> Result<Went, NoMemory>
-        ensures performs { Performs C.Cells (file_met (file_name [] (text ++ given ∷ [])) (text ++ given ∷ [])) result self.new.cells.now self.new.desk.now self.old.cells.now self.old.desk.now }
+    // The name of a file begins anew.
+    fn restart_file(&mut self) -> Result<Went, NoMemory>
+        ensures performs { PerformsOver C.Cells (kept reading.File []) result self.new self.old }
         ensures same_cells { self.new.cells.ghost_name ≡ self.old.cells.ghost_name }
         ensures same_desk { self.new.desk.ghost_name ≡ self.old.desk.ghost_name }
     {
-        match text.take(given)? {
+        let text = FileName::new(self.desk.alloc);
+        self.keep_file(text)
+    }
+
+    // A space has ended the name of a file, or stands before it.
+    fn end_file(&mut self, name: Bytes) -> Result<Went, NoMemory>
+        ensures performs { PerformsOver C.Cells (λ c. if is_empty name then kept reading.File [] c else and_then (put [] c) (input name)) result self.new self.old }
+        ensures same_cells { self.new.cells.ghost_name ≡ self.old.cells.ghost_name }
+        ensures same_desk { self.new.desk.ghost_name ≡ self.old.desk.ghost_name }
+    {
+        if is_empty(name.as_slice()) {
+            return self.restart_file();
+        }
+        self.input_at_once(name)
+    }
+
+    // The name of a file is given a token.
+    pub(crate) fn give_file(&mut self, text: FileName, tok: Tok) -> Result<Went, NoMemory>
+        ensures performs { PerformsOver C.Cells (file_given (file_name [] (text ++ AToken tok ∷ [])) (text ++ AToken tok ∷ [])) result self.new self.old }
+        ensures same_cells { self.new.cells.ghost_name ≡ self.old.cells.ghost_name }
+        ensures same_desk { self.new.desk.ghost_name ≡ self.old.desk.ghost_name }
+    {
+        match text.take(Given::Tok(tok))? {
             FileTurn::Open(text) => self.keep_file(text),
-            FileTurn::Ended(name) => self.input_at_once(name),
+            FileTurn::Ended(name) => self.end_file(name),
             FileTurn::EndedBefore(name, given) => self.input_before(name, given),
         }
     }
@@ -185,7 +213,7 @@ impl<'a, C: Cells> Feeder<'a, C> {
     // `\expandafter` puts its token before the one that it is given.
     #[tactic(auto, using(crate::proofs::PassLemmas::works_performs))]
     pub(crate) fn give_held(&mut self, held: Tok, tok: Tok) -> Result<Went, NoMemory>
-        ensures performs { Performs C.Cells (put (held ∷ tok ∷ [])) result self.new.cells.now self.new.desk.now self.old.cells.now self.old.desk.now }
+        ensures performs { PerformsOver C.Cells (put (held ∷ tok ∷ [])) result self.new self.old }
         ensures same_cells { self.new.cells.ghost_name ≡ self.old.cells.ghost_name }
         ensures same_desk { self.new.desk.ghost_name ≡ self.old.desk.ghost_name }
     {

@@ -2,19 +2,24 @@
 #![tactic(auto)]
 
 mod asking;
+mod calls;
 mod closing;
 mod conditionals;
 mod desk;
 mod feeder;
+mod fonts;
 mod giving;
+mod handing;
+mod inputs;
 mod pairs;
 mod putting;
 mod readings;
+mod rows;
+mod scanning;
+mod steps;
 mod taking;
 mod tests;
 
-pub use closing::Closed;
 pub use desk::Desk;
 pub use feeder::Feeder;
-pub use readings::{Opened, Readings};
-pub use taking::Taken;
+pub use lb_model_grammar::{Quantity, ScanKind, Scanned};

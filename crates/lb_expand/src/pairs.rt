@@ -3,9 +3,9 @@ ghost use Rattle.std.specs.Prelude.{◌≡◌, ◌∷◌, [], Some, None, pos, i
 ghost use Rattle.lb_model.specs.declared.open.ReadingKind.TheVariants as reading;
 ghost use Rattle.lb_model_grammar.specs.Conditionals.{chosen};
 ghost use Rattle.lb_model_grammar.specs.Scans.{is_space};
-ghost use Rattle.lb_model_book.specs.Expansion.{control_category, control_code, decided, is_expanded, kept, opened, pair_kind, relation_met, relation_of, seen_as, side_kind};
-ghost use Rattle.lb_expand.specs.Performs.{Performs};
+ghost use Rattle.lb_model_expansion.specs.Expansion.{control_category, control_code, decided, is_expanded, kept, opened, pair_kind, relation_met, relation_of, seen_as, side_kind};
 ghost use Rattle.lb_expand.specs.Works.{Leads, Works};
+ghost use Rattle.lb_expand.specs.Feeding.{PerformsOver};
 
 use crate::feeder::Feeder;
 use crate::putting::keep;
@@ -13,7 +13,7 @@ use crate::readings::Opened;
 use lb_base::{Category, Kind, NoMemory, Tok};
 use lb_cond::{expandable, test};
 use lb_model::{Cells, Compared, Pairing, Purpose};
-use lb_model_book::Went;
+use lb_model_expansion::Went;
 use lb_model_grammar::{CondKind, Rel, ScanKind};
 use lb_values::{Meaning, category_code};
 
@@ -122,7 +122,7 @@ fn relation_of(tok: &Tok) -> Option<Rel>
     }
 }
 
-fn is_space(tok: &Tok) -> bool
+pub(crate) fn is_space(tok: &Tok) -> bool
     ensures { result ≡ is_space tok.now }
 {
     matches!(tok, Tok::Char(Category::Space, _))
@@ -141,7 +141,7 @@ impl<'a, C: Cells> Feeder<'a, C> {
     // The first token of a test is there.
     #[tactic(auto, using(crate::proofs::PassLemmas::works_performs))]
     pub(crate) fn keep_first(&mut self, pairing: Pairing, first: u16) -> Result<Went, NoMemory>
-        ensures performs { Performs C.Cells (kept (reading.Codes pairing (Some first)) []) result self.new.cells.now self.new.desk.now self.old.cells.now self.old.desk.now }
+        ensures performs { PerformsOver C.Cells (kept (reading.Codes pairing (Some first)) []) result self.new self.old }
         ensures same_cells { self.new.cells.ghost_name ≡ self.old.cells.ghost_name }
         ensures same_desk { self.new.desk.ghost_name ≡ self.old.desk.ghost_name }
     {
@@ -155,10 +155,54 @@ impl<'a, C: Cells> Feeder<'a, C> {
         first: u16,
         second: u16,
     ) -> Result<Went, NoMemory>
-        ensures performs { Performs C.Cells (decided (chosen (pair_kind pairing) (pos first) (pos second))) result self.new.cells.now self.new.desk.now self.old.cells.now self.old.desk.now }
+        ensures performs { PerformsOver C.Cells (decided (chosen (pair_kind pairing) (pos first) (pos second))) result self.new self.old }
         ensures same_cells { self.new.cells.ghost_name ≡ self.old.cells.ghost_name }
         ensures same_desk { self.new.desk.ghost_name ≡ self.old.desk.ghost_name }
     {
         self.begin_part(test(pair_kind(pairing), i64::from(first), i64::from(second)))
+    }
+
+    // A relation goes on behind a space.
+    #[tactic(auto, using(crate::proofs::PassLemmas::works_performs))]
+    fn keep_relation(&mut self, compared: Compared, left: i32) -> Result<Went, NoMemory>
+        ensures performs { PerformsOver C.Cells (kept (reading.Relation compared left) []) result self.new self.old }
+        ensures same_cells { self.new.cells.ghost_name ≡ self.old.cells.ghost_name }
+        ensures same_desk { self.new.desk.ghost_name ≡ self.old.desk.ghost_name }
+    {
+        keep(self.desk, Opened::Relation(compared, left))
+    }
+
+    // The other side of a comparison is read behind its relation.
+    fn read_right(
+        &mut self,
+        rel: Option<Rel>,
+        compared: Compared,
+        left: i32,
+    ) -> Result<Went, NoMemory>
+        ensures performs { PerformsOver C.Cells (relation_met rel compared left) result self.new self.old }
+        ensures same_cells { self.new.cells.ghost_name ≡ self.old.cells.ghost_name }
+        ensures same_desk { self.new.desk.ghost_name ≡ self.old.desk.ghost_name }
+    {
+        match rel {
+            Some(rel) => self.read_for(side_kind(compared), Purpose::Right(compared, left, rel)),
+            None => Ok(Went::Stopped(Kind::TokenMisplaced)),
+        }
+    }
+
+    // A relation is given a token.
+    pub(crate) fn give_relation(
+        &mut self,
+        compared: Compared,
+        left: i32,
+        tok: &Tok,
+    ) -> Result<Went, NoMemory>
+        ensures performs { PerformsOver C.Cells (λ c. if is_space tok.now then kept (reading.Relation compared left) [] c else relation_met (relation_of tok.now) compared left c) result self.new self.old }
+        ensures same_cells { self.new.cells.ghost_name ≡ self.old.cells.ghost_name }
+        ensures same_desk { self.new.desk.ghost_name ≡ self.old.desk.ghost_name }
+    {
+        if is_space(tok) {
+            return self.keep_relation(compared, left);
+        }
+        self.read_right(relation_of(tok), compared, left)
     }
 }

@@ -1,15 +1,15 @@
 //! Tokens that are put before the rest, and readings that open.
 ghost use Rattle.std.specs.Prelude.{◌≡◌, ◌∷◌, [], IfOk, map};
 ghost use Rattle.lb_model_grammar.specs.Printed.{printed};
-ghost use Rattle.lb_model_book.specs.Expansion.{opened, with_reading};
-ghost use Rattle.lb_model_book.specs.Steps.{on, put};
+ghost use Rattle.lb_model_expansion.specs.Expansion.{opened, opened_uncounted, with_reading};
+ghost use Rattle.lb_model_expansion.specs.Steps.{on, put};
 ghost use Rattle.lb_expand.specs.Opens.{reading_of};
 ghost use Rattle.lb_expand.specs.Works.{Leads, Works};
 
 use crate::desk::Desk;
 use crate::readings::Opened;
 use lb_base::{Kind, NoMemory, Stop, Tok, TokList};
-use lb_model_book::Went;
+use lb_model_expansion::Went;
 use lb_values::Shared;
 use std::alloc::AllocError;
 
@@ -67,7 +67,16 @@ pub(crate) fn open(desk: &mut Desk, reading: Opened) -> Result<Went, NoMemory>
     Ok(Went::On)
 }
 
-/// Opens a reading again, or one that does not count.
+/// Opens a reading that does not count, or for which there is room.
+pub(crate) fn begin(desk: &mut Desk, reading: Opened) -> Result<Went, NoMemory>
+    requires { (reading_of reading).given ≡ [] }
+    ensures works { Works (opened_uncounted (reading_of reading).kind) result desk.new desk.old }
+{
+    desk.readings.put(reading)?;
+    Ok(Went::On)
+}
+
+/// Opens a reading again.
 pub(crate) fn keep(desk: &mut Desk, reading: Opened) -> Result<Went, NoMemory>
     ensures works { Works (λ c. on (with_reading (reading_of reading).kind (reading_of reading).given c)) result desk.new desk.old }
 {

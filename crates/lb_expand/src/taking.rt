@@ -11,7 +11,7 @@ ghost use Rattle.lb_model.specs.declared.place.Got.TheVariants.{Fault as GotFaul
 ghost use Rattle.lb_base.specs.declared.token.Tok.{Tok as AToken};
 ghost use Rattle.lb_model.specs.Configs.{Config};
 ghost use Rattle.lb_model.specs.Meanings.{token_meaning};
-ghost use Rattle.lb_model_book.specs.Steps.{Performed, token_taken};
+ghost use Rattle.lb_model_expansion.specs.Steps.{Performed, token_taken};
 ghost use Rattle.lb_expand.specs.Performs.{Passes};
 ghost use Rattle.lb_expand.specs.Tokens.{behind_taken};
 ghost use Rattle.lb_expand.specs.Views.{config};
@@ -19,7 +19,7 @@ ghost use Rattle.lb_expand.specs.Views.{config};
 use crate::desk::Desk;
 use lb_base::{Kind, NoMemory, Stop, Tok};
 use lb_model::{Cells, reads};
-use lb_model_book::Went;
+use lb_model_expansion::Went;
 use lb_values::{Cell, Meaning};
 use std::alloc::AllocError;
 
@@ -98,7 +98,8 @@ pub(crate) fn take_token<C: Cells>(cells: &mut C, desk: &mut Desk) -> Result<Tak
     ensures told { Told C.Cells cells.new cells.old }
     ensures taken { IfOk result (λ t. (next : AToken → Config → Performed) → Passes C.Cells (λ c. token_taken c next) (behind_taken t next) cells.new desk.new cells.old desk.old) }
 {
-    match take(cells, desk, true) {
+    let passes = desk.readings.ends_pass();
+    match take(cells, desk, passes) {
         Ok(Some(tok)) => Ok(Taken::Tok(tok)),
         Ok(None) => Ok(Taken::Stops(Went::Stopped(Kind::Runaway))),
         Err(Stop::Fault(kind)) => Ok(Taken::Stops(Went::Stopped(kind))),

@@ -3,10 +3,10 @@ ghost use Rattle.std.specs.Prelude.{◌≡◌, ◌∷◌, ◌++◌, None};
 ghost use Rattle.lb_model.specs.Configs.{looks_of_meaning};
 ghost use Rattle.lb_model.specs.Same.{same_meaning};
 ghost use Rattle.lb_model.specs.declared.open.ReadingKind.TheVariants as reading;
-ghost use Rattle.lb_model_book.specs.Expansion.{decided, is_horizontal, is_vertical, meaning_of_token, meanings_compared, opened, opened_uncounted, test_begun, test_opened};
+ghost use Rattle.lb_model_expansion.specs.Expansion.{decided, is_horizontal, is_vertical, meaning_of_token, meanings_compared, opened, opened_uncounted, test_begun, test_opened};
 ghost use Rattle.lb_model_grammar.specs.Conditionals.{if_true};
-ghost use Rattle.lb_model_book.specs.Steps.{looking, token_taken};
-ghost use Rattle.lb_expand.specs.Performs.{Performs};
+ghost use Rattle.lb_model_expansion.specs.Steps.{looking, token_taken};
+ghost use Rattle.lb_expand.specs.Feeding.{PerformsOver};
 
 use crate::feeder::Feeder;
 use crate::putting::{keep, open};
@@ -15,7 +15,7 @@ use crate::taking::{Taken, sense_of, take_token};
 use lb_base::{Kind, NoMemory, Tok};
 use lb_model::laws::meanings_are_compared;
 use lb_model::{Cells, Compared, Mode, Pairing, Purpose, TestKind};
-use lb_model_book::Went;
+use lb_model_expansion::Went;
 use lb_model_grammar::{Branch, ScanKind};
 use lb_scan::Scan;
 use lb_values::Meaning;
@@ -48,7 +48,7 @@ fn same_meaning(one: &Option<Meaning>, other: &Option<Meaning>) -> bool
 impl<'a, C: Cells> Feeder<'a, C> {
     // A part is chosen by whether two tokens mean the same.
     fn compare(&mut self, first: &Tok, second: &Tok) -> Result<Went, NoMemory>
-        ensures performs { Performs C.Cells (λ c. looking (looks_of_meaning first.now ++ looks_of_meaning second.now) (decided (if_true (same_meaning (meaning_of_token c first.now) (meaning_of_token c second.now))) c)) result self.new.cells.now self.new.desk.now self.old.cells.now self.old.desk.now }
+        ensures performs { PerformsOver C.Cells (λ c. looking (looks_of_meaning first.now ++ looks_of_meaning second.now) (decided (if_true (same_meaning (meaning_of_token c first.now) (meaning_of_token c second.now))) c)) result self.new self.old }
         ensures same_cells { self.new.cells.ghost_name ≡ self.old.cells.ghost_name }
         ensures same_desk { self.new.desk.ghost_name ≡ self.old.desk.ghost_name }
     {
@@ -59,7 +59,7 @@ impl<'a, C: Cells> Feeder<'a, C> {
 
     // `\ifx` takes two tokens.
     fn compare_meanings(&mut self) -> Result<Went, NoMemory>
-        ensures performs { Performs C.Cells (meanings_compared) result self.new.cells.now self.new.desk.now self.old.cells.now self.old.desk.now }
+        ensures performs { PerformsOver C.Cells (meanings_compared) result self.new self.old }
         ensures same_cells { self.new.cells.ghost_name ≡ self.old.cells.ghost_name }
         ensures same_desk { self.new.desk.ghost_name ≡ self.old.desk.ghost_name }
     {
@@ -71,7 +71,7 @@ impl<'a, C: Cells> Feeder<'a, C> {
 
     // Takes the second token of `\ifx`.
     fn compare_with(&mut self, first: &Tok) -> Result<Went, NoMemory>
-        ensures performs { Performs C.Cells (λ d. token_taken d (λ second e. looking (looks_of_meaning first.now ++ looks_of_meaning second) (decided (if_true (same_meaning (meaning_of_token e first.now) (meaning_of_token e second))) e))) result self.new.cells.now self.new.desk.now self.old.cells.now self.old.desk.now }
+        ensures performs { PerformsOver C.Cells (λ d. token_taken d (λ second e. looking (looks_of_meaning first.now ++ looks_of_meaning second) (decided (if_true (same_meaning (meaning_of_token e first.now) (meaning_of_token e second))) e))) result self.new self.old }
         ensures same_cells { self.new.cells.ghost_name ≡ self.old.cells.ghost_name }
         ensures same_desk { self.new.desk.ghost_name ≡ self.old.desk.ghost_name }
     {
@@ -84,7 +84,7 @@ impl<'a, C: Cells> Feeder<'a, C> {
     /// A number or a dimension is read for this.
     #[tactic(auto, using(crate::proofs::PassLemmas::works_performs))]
     pub(crate) fn read_for(&mut self, kind: ScanKind, purpose: Purpose) -> Result<Went, NoMemory>
-        ensures performs { Performs C.Cells (opened (reading.Scan kind purpose)) result self.new.cells.now self.new.desk.now self.old.cells.now self.old.desk.now }
+        ensures performs { PerformsOver C.Cells (opened (reading.Scan kind purpose)) result self.new self.old }
         ensures same_cells { self.new.cells.ghost_name ≡ self.old.cells.ghost_name }
         ensures same_desk { self.new.desk.ghost_name ≡ self.old.desk.ghost_name }
     {
@@ -95,7 +95,7 @@ impl<'a, C: Cells> Feeder<'a, C> {
     // Two tokens are read for a test.
     #[tactic(auto, using(crate::proofs::PassLemmas::works_performs))]
     fn read_pair(&mut self, pairing: Pairing) -> Result<Went, NoMemory>
-        ensures performs { Performs C.Cells (opened_uncounted (reading.Codes pairing None)) result self.new.cells.now self.new.desk.now self.old.cells.now self.old.desk.now }
+        ensures performs { PerformsOver C.Cells (opened_uncounted (reading.Codes pairing None)) result self.new self.old }
         ensures same_cells { self.new.cells.ghost_name ≡ self.old.cells.ghost_name }
         ensures same_desk { self.new.desk.ghost_name ≡ self.old.desk.ghost_name }
     {
@@ -104,7 +104,7 @@ impl<'a, C: Cells> Feeder<'a, C> {
 
     // What a conditional does first.
     fn begin_test(&mut self, test: TestKind) -> Result<Went, NoMemory>
-        ensures performs { Performs C.Cells (test_begun test) result self.new.cells.now self.new.desk.now self.old.cells.now self.old.desk.now }
+        ensures performs { PerformsOver C.Cells (test_begun test) result self.new self.old }
         ensures same_cells { self.new.cells.ghost_name ≡ self.old.cells.ghost_name }
         ensures same_desk { self.new.desk.ghost_name ≡ self.old.desk.ghost_name }
     {
@@ -128,7 +128,7 @@ impl<'a, C: Cells> Feeder<'a, C> {
 
     /// A conditional begins.
     pub(crate) fn open_test(&mut self, test: TestKind) -> Result<Went, NoMemory>
-        ensures performs { Performs C.Cells (test_opened test) result self.new.cells.now self.new.desk.now self.old.cells.now self.old.desk.now }
+        ensures performs { PerformsOver C.Cells (test_opened test) result self.new self.old }
         ensures same_cells { self.new.cells.ghost_name ≡ self.old.cells.ghost_name }
         ensures same_desk { self.new.desk.ghost_name ≡ self.old.desk.ghost_name }
     {

@@ -47,7 +47,7 @@ impl Arguments {
 
     /// An argument, by its place from 0. Takes no memory.
     #[tactic(auto, using(crate::proofs::ArgumentLemmas::get_list))]
-    pub fn get(&self, place: usize) -> Option<&Shared<TokList>>
+    pub(crate) fn get(&self, place: usize) -> Option<&Shared<TokList>>
         ensures { get_or self.now place [] ≡ tokens_or_none result }
     {
         match self.lists.as_slice().get(place) {

@@ -64,7 +64,8 @@ impl Call {
 
     /// What comes next, which is taken. Takes no memory.
     pub fn next(&mut self) -> Result<Piece, NoMemory>
-        ensures piece { IfOk result (λ piece. substituted self.old.arguments self.old.body ≡ piece_before piece (substituted self.new.arguments self.new.body)) }
+        ensures piece { IfOk result (λ piece.
+            substituted self.old.arguments self.old.body ≡ piece_before piece (substituted self.new.arguments self.new.body)) }
         ensures end { IfOk result (λ piece. is_end piece ≡ true → substituted self.old.arguments self.old.body ≡ []) }
         ensures falls { IfOk result (λ piece. is_end piece ≡ false → length self.new.body < length self.old.body) }
         ensures err { OnErr result (self.new ≡ self.old) }
@@ -103,6 +104,9 @@ fn count_of(arguments: &Arguments, tok: &Tok) -> usize
     }
 }
 
+/// One token more than may be pending.
+const TOO_MANY: u64 = 1_000_001;
+
 /// How many tokens a body stands for with its arguments, where over a million are all alike. Takes no memory.
 pub fn count_filled(arguments: &Arguments, body: &[Tok]) -> u64
     ensures { result ≡ min (length (substituted arguments.now body.now)) 1000001 }
@@ -111,7 +115,7 @@ pub fn count_filled(arguments: &Arguments, body: &[Tok]) -> u64
     for tok in body {
         count = count
             .saturating_add(count_of(arguments, tok) as u64)
-            .min(1000001);
+            .min(TOO_MANY);
     }
     count
 }

@@ -2,9 +2,6 @@
 #![tactic(auto)]
 
 pub mod end;
-pub mod expansion;
 pub mod laws;
-pub mod rows;
 
 pub use end::End;
-pub use expansion::{Answer, Went};

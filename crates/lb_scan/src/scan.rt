@@ -3,6 +3,7 @@ ghost use Rattle.std.specs.Prelude.{◌≡◌, ◌++◌, ◌∷◌, [], List, If
 ghost use Rattle.lb_base.specs.declared.fault.Fault.{Fault as AFault};
 ghost use Rattle.lb_base.specs.declared.fault.Kind.{Kind as AKind};
 ghost use Rattle.lb_model_grammar.specs.declared.given.Given.{Given as AGiven};
+ghost use Rattle.lb_model_grammar.specs.declared.given.Want.{Want as AWant};
 ghost use Rattle.lb_model_grammar.specs.Dimensions.{Uses, meant};
 ghost use Rattle.lb_model_grammar.specs.Scans.{after_of, value_of, want_of};
 ghost use Rattle.lb_model_grammar.specs.Scans.Meant.{Wrong};
@@ -264,6 +265,24 @@ impl Scan {
     {
         self.turn(given)?;
         self.want()
+    }
+
+    /// Whether the scan wants its next token as it is, which is so behind a backquote. Takes no memory.
+    pub fn wants_plain(&self) -> bool
+        ensures plain { result ≡ true → want_of (meant self.now.kind self.now.given) ≡ Some AWant.Plain }
+        ensures other { result ≡ false → ¬ (want_of (meant self.now.kind self.now.given) ≡ Some AWant.Plain) }
+    {
+        match self.want() {
+            Ok(Want::Plain) => true,
+            Ok(Want::Expanded) => false,
+            Ok(Want::Quantity) => false,
+            Ok(Want::Em) => false,
+            Ok(Want::Ex) => false,
+            Ok(Want::Done) => false,
+            Err(Stop::Fault(_kind)) => false,
+            Err(Stop::At(_fault)) => false,
+            Err(Stop::Memory) => false,
+        }
     }
 
     /// The value, where the scan is done. Takes no memory.

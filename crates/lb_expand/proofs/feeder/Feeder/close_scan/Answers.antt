@@ -1,6 +1,6 @@
 use Rattle.std.proofs.Common.{sym}
-use Rattle.lb_model_book.specs.Expansion.{number_found, scan_closed}
-use Rattle.lb_model_book.specs.Steps.{and_then, put}
+use Rattle.lb_model_expansion.specs.Expansion.{number_found, scan_closed}
+use Rattle.lb_model_expansion.specs.Steps.{and_then, put}
 use Rattle.lb_expand.specs.Closings.{number_used}
 use Rattle.lb_expand.proofs.CloseLemmas.{closes-as}
 use Rattle.lb_expand.proofs.feeder.Feeder.close_scan.Goals as goal

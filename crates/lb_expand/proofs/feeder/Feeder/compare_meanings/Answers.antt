@@ -2,8 +2,8 @@ use Rattle.std.proofs.Common.{◌++◌}
 use Rattle.lb_base.specs.declared.token.Tok.{Tok}
 use Rattle.lb_model.specs.Configs.{Config, looks_of_meaning}
 use Rattle.lb_model.specs.Same.{same_meaning}
-use Rattle.lb_model_book.specs.Expansion.{decided, meaning_of_token}
-use Rattle.lb_model_book.specs.Steps.{Performed, looking, token_taken}
+use Rattle.lb_model_expansion.specs.Expansion.{decided, meaning_of_token}
+use Rattle.lb_model_expansion.specs.Steps.{Performed, looking, token_taken}
 use Rattle.lb_model_grammar.specs.Conditionals.{if_true}
 use Rattle.lb_expand.specs.Tokens.{behind_taken}
 use Rattle.lb_expand.proofs.PassLemmas.{passes-as, performs-after, performs-passed}

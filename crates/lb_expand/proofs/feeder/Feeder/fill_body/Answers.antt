@@ -2,7 +2,7 @@ use Rattle.std.proofs.Common.{◌∙◌, ◌++◌, [], map, ap, sym}
 use Rattle.std.specs.Prelude.{unwrap_or}
 use Rattle.lb_model.specs.declared.open.ReadingKind.TheVariants as reading
 use Rattle.lb_model_grammar.specs.declared.given.Given.TheVariants.{Tok as AToken}
-use Rattle.lb_model_book.specs.Expansion.{doubled, kept}
+use Rattle.lb_model_expansion.specs.Expansion.{doubled, kept}
 use Rattle.lb_expand.proofs.PassLemmas.{performs-as}
 use Rattle.lb_expand.proofs.feeder.Feeder.fill_body.Goals as goal
 

@@ -1,6 +1,6 @@
 use Rattle.std.proofs.Common.{◌∙◌, ◌++◌, ◌∷◌, [], ap}
 use Rattle.lb_model_grammar.specs.declared.given.Given.TheVariants.{Tok as AToken}
-use Rattle.lb_model_book.specs.Expansion.{word_met}
+use Rattle.lb_model_expansion.specs.Expansion.{word_met}
 use Rattle.lb_words.specs.Turns.{word_turned}
 use Rattle.lb_expand.proofs.CloseLemmas.{closes-as}
 use Rattle.lb_expand.proofs.feeder.Feeder.give_word.Goals as goal

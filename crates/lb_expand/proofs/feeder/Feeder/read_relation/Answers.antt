@@ -1,7 +1,7 @@
 use Rattle.std.proofs.Common.{FitsSigned, rules, sym, w32}
 use Rattle.std.proofs.lemmas.Int.{to_z-of_z}
 use Rattle.lb_model.specs.declared.open.ReadingKind.TheVariants.{Relation}
-use Rattle.lb_model_book.specs.Expansion.{opened_uncounted}
+use Rattle.lb_model_expansion.specs.Expansion.{opened_uncounted}
 use Rattle.lb_expand.proofs.PassLemmas.{performs-as, works_performs}
 use Rattle.lb_expand.proofs.feeder.Feeder.read_relation.Goals as goal
 

@@ -7,8 +7,8 @@ use Rattle.lb_model_grammar.specs.declared.given.Given.{Given}
 use Rattle.lb_model_grammar.specs.declared.given.Given.TheVariants.{Quantity as AQuantity}
 use Rattle.lb_model_grammar.specs.declared.given.ScanKind.{ScanKind}
 use Rattle.lb_model_grammar.specs.Dimensions.{meant}
-use Rattle.lb_model_book.specs.Expansion.{scan_as}
-use Rattle.lb_model_book.specs.Steps.{Performed, stopped}
+use Rattle.lb_model_expansion.specs.Expansion.{scan_as}
+use Rattle.lb_model_expansion.specs.Steps.{Performed, stopped}
 use Rattle.lb_expand.proofs.CloseLemmas.{closes-as}
 use Rattle.lb_expand.proofs.feeder.Feeder.scan_quantity.Goals as goal
 

@@ -4,8 +4,8 @@ use Rattle.lb_model.specs.Configs.{Config}
 use Rattle.lb_model_grammar.specs.declared.condition.Sought.TheVariants.{Nth}
 use Rattle.lb_model_grammar.specs.declared.condition.Stopper.{Stopper}
 use Rattle.lb_model_grammar.specs.declared.condition.Stopper.TheVariants.{Or}
-use Rattle.lb_model_book.specs.Expansion.{stopped_at, with_conditionals}
-use Rattle.lb_model_book.specs.Steps.{Performed, on}
+use Rattle.lb_model_expansion.specs.Expansion.{stopped_at, with_conditionals}
+use Rattle.lb_model_expansion.specs.Steps.{Performed, on}
 use Rattle.lb_expand.proofs.PassLemmas.{at-fault, inside-left, performs-behind, read-performs, read-stops, works_performs}
 use Rattle.lb_expand.proofs.feeder.Feeder.skip_case.Goals as goal
 

@@ -4,8 +4,8 @@ use Rattle.lb_model.specs.Configs.{Config}
 use Rattle.lb_model_grammar.specs.declared.condition.Sought.TheVariants.{End}
 use Rattle.lb_model_grammar.specs.declared.condition.Stopper.{Stopper}
 use Rattle.lb_model_grammar.specs.declared.condition.Stopper.TheVariants.{Fi}
-use Rattle.lb_model_book.specs.Expansion.{with_conditionals}
-use Rattle.lb_model_book.specs.Steps.{Performed, on}
+use Rattle.lb_model_expansion.specs.Expansion.{with_conditionals}
+use Rattle.lb_model_expansion.specs.Steps.{Performed, on}
 use Rattle.lb_expand.proofs.PassLemmas.{at-fault, read-performs, read-stops}
 use Rattle.lb_expand.proofs.feeder.Feeder.skip_rest.Goals as goal
 

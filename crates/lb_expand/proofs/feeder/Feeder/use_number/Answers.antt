@@ -1,6 +1,6 @@
 use Rattle.std.proofs.Common.{FitsSigned, rules, sym, w32}
 use Rattle.std.proofs.lemmas.Int.{to_z-of_z}
-use Rattle.lb_model_book.specs.Expansion.{index_closed, picks}
+use Rattle.lb_model_expansion.specs.Expansion.{index_closed, picks}
 use Rattle.lb_expand.specs.Closings.{number_used}
 use Rattle.lb_expand.proofs.CloseLemmas.{closes-as}
 use Rattle.lb_expand.proofs.feeder.Feeder.use_number.Goals as goal

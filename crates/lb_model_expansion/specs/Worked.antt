@@ -16,8 +16,8 @@ use Rattle.lb_model.specs.declared.world.World.{World}
 use Rattle.lb_model.specs.Settings.{State}
 use Rattle.lb_model.specs.declared.place.Mode.TheVariants.{Vertical}
 use Rattle.lb_model.specs.Configs.{Config}
-use Rattle.lb_model_book.specs.Expansion.{next_from}
-use Rattle.lb_model_book.specs.Steps.{Step}
+use Rattle.lb_model_expansion.specs.Expansion.{next_from}
+use Rattle.lb_model_expansion.specs.Steps.{Step}
 use Rattle.lb_model.specs.Sources.Item.{Pending}
 
 abbrev pub rows : List (List ℕ × Command)

@@ -1,5 +1,5 @@
 -- Steps of expansion (TeXbook, chapter 20; tex.web, parts 25 to 28): what each command that is expanded does, and what becomes of what is read.
-use Rattle.std.specs.Prelude.{◌++◌, Bool, true, false, ℕ, zero, suc, ℤ, pos, negsuc, nat_lt, List, [], ◌∷◌, map, length, codes, drop, Option, Some, None, is_some, unwrap_or, if◌then◌else◌}
+use Rattle.std.specs.Prelude.{◌++◌, ◌^◌, Bool, true, false, ℕ, zero, suc, ℤ, pos, negsuc, nat_lt, List, [], ◌∷◌, map, length, codes, drop, Option, Some, None, is_some, unwrap_or, if◌then◌else◌}
 use Rattle.std.specs.Option.{option_map}
 use Rattle.std.specs.Fmt.{signed_decimal}
 use Rattle.lb_base.specs.declared.fault.Kind.TheVariants as kind
@@ -54,6 +54,7 @@ use Rattle.lb_model.specs.declared.open.Compared.TheVariants.{Numbers, Dimension
 use Rattle.lb_model.specs.declared.open.Conditional.{Conditional}
 use Rattle.lb_model.specs.declared.open.Conditional.TheVariants.{Deciding, Then, Case, Otherwise}
 use Rattle.lb_model.specs.declared.open.Indexed.{Indexed}
+use Rattle.lb_model.specs.declared.open.Indexed.TheVariants as indexed
 use Rattle.lb_model.specs.declared.open.Pairing.{Pairing}
 use Rattle.lb_model.specs.declared.open.Pairing.TheVariants.{Codes, Categories}
 use Rattle.lb_model.specs.declared.open.Purpose.{Purpose}
@@ -66,12 +67,13 @@ use Rattle.lb_model.specs.declared.place.Mode.{Mode}
 use Rattle.lb_model.specs.declared.place.Mode.TheVariants.{Vertical}
 use Rattle.lb_model.specs.Arguments.{arguments, looks_arguments}
 use Rattle.lb_model.specs.Conditionals.{comparison, decided_as, inside, looks_skipped, may_end, passed, skipped}
-use Rattle.lb_model.specs.Configs.{Config, Reading, in_file, looks_in_file, looks_of_meaning, looks_of_plain, meaning_now, plain}
+use Rattle.lb_model.specs.Configs.{Config, Reading, in_file, looks_by, looks_in_file, looks_of_meaning, meaning_now, taken_by}
 use Rattle.lb_model.specs.Expandables.{expandable}
 use Rattle.lb_model.specs.FontTable.{font_file, font_name}
 use Rattle.lb_model.specs.Forms.{in_form}
 use Rattle.lb_model.specs.Kinds.{form_of, name_of, size_of, style_of}
 use Rattle.lb_model.specs.Kinds as held
+use Rattle.lb_model.specs.Lines.{is_empty}
 use Rattle.lb_model.specs.Meanings.{is_control, token_meaning, undefined}
 use Rattle.lb_model.specs.Quantities.{Internal, counter_in, indexed_cell, internal_in, looks_internal, picked}
 use Rattle.lb_model.specs.Quantities.Internal.{Known, Tokens, Picked, OfCounter}
@@ -83,18 +85,20 @@ use Rattle.lb_model.specs.Sources.Item.{Text}
 use Rattle.lb_model.specs.Stacked.{StackedNotes, assigned, notes_assigned}
 use Rattle.lb_model_paper.specs.FoundFonts.{Broken, FontFound, Found, Missing, font_found}
 use Rattle.lb_model_paper.specs.Fonts.{FontData}
-use Rattle.lb_model_book.specs.declared.expansion.Answer.{Answer}
-use Rattle.lb_model_book.specs.declared.expansion.Answer.TheVariants as answer
-use Rattle.lb_model_book.specs.declared.expansion.Went.{Went}
-use Rattle.lb_model_book.specs.declared.expansion.Went.TheVariants.{On, Gave, Answered, Over, Stopped}
-use Rattle.lb_model_book.specs.Steps.{Performed, Step, and_then, answered, looking, on, performed, put, put_then, stopped, stopped_in, token_taken, with_outcome}
+use Rattle.lb_model_expansion.specs.declared.expansion.Answer.{Answer}
+use Rattle.lb_model_expansion.specs.declared.expansion.Answer.TheVariants as answer
+use Rattle.lb_model_expansion.specs.declared.expansion.Went.{Went}
+use Rattle.lb_model_expansion.specs.declared.expansion.Went.TheVariants.{On, Gave, Answered, Over, Stopped}
+use Rattle.lb_model_expansion.specs.Steps.{Performed, Step, and_then, answered, ends_pass, is_body, looking, on, performed, put, put_then, stopped, stopped_in, token_taken, with_outcome}
 
 -- ---- Readings that open
 
--- the readings that are counted: what tests take counts with their conditionals
+-- the readings that are counted: what tests take counts with their conditionals, and bodies and the quantities of tokens are none
 abbrev pub is_counted : ReadingKind → Bool
 is_counted (reading.Codes pairing first) = false
 is_counted (reading.Relation compared left) = false
+is_counted reading.Body = false
+is_counted reading.Quantity = false
 is_counted r = true
 
 abbrev pub counted : List Reading → ℕ
@@ -104,20 +108,27 @@ counted (r ∷ readings) = if is_counted r.kind then suc (counted readings) else
 abbrev pub with_reading : ReadingKind → List Given → Config → Config
 with_reading r given c = record c { readings = record { kind = r; given = given } ∷ c.readings }
 
-abbrev pub opened : ReadingKind → Config → Performed
-opened r c = if nat_lt (counted c.readings) 10000 then on (with_reading r [] c) else stopped kind.DepthLimit c
+-- where one more reading may be open
+abbrev pub if_room : (Config → Performed) → Config → Performed
+if_room act c = if nat_lt (counted c.readings) 10000 then act c else stopped kind.DepthLimit c
 
--- a test reads two tokens, or a relation
+-- a reading that is not counted, or for which there is room
 abbrev pub opened_uncounted : ReadingKind → Config → Performed
 opened_uncounted r c = on (with_reading r [] c)
 
+abbrev pub opened : ReadingKind → Config → Performed
+opened r c = if_room (opened_uncounted r) c
+
 -- a text in braces: it is put back with a brace behind it, and expanded up to that
 abbrev pub word_behind : List Tok → Purpose → Config → Performed
-word_behind toks purpose c = and_then (put (toks ++ Char category.EndGroup 125 ∷ []) c) (opened (reading.Word purpose))
+word_behind toks purpose c = and_then (put (toks ++ Char category.EndGroup 125 ∷ []) c) (opened_uncounted (reading.Word purpose))
+
+abbrev pub word_taken : Purpose → Config → Performed
+word_taken purpose c =
+    with_outcome (taken in_file (undelimited true) c) (looks_taken in_file looks_in_file (undelimited true) c) (λ toks d. word_behind toks purpose d)
 
 abbrev pub word_opened : Purpose → Config → Performed
-word_opened purpose c =
-    with_outcome (taken in_file (undelimited true) c) (looks_taken in_file looks_in_file (undelimited true) c) (λ toks d. word_behind toks purpose d)
+word_opened purpose c = if_room (word_taken purpose) c
 
 -- ---- Conditionals
 
@@ -362,14 +373,15 @@ doubled [] = []
 doubled (Char category.Parameter code ∷ toks) = Char category.Parameter code ∷ Char category.Parameter code ∷ doubled toks
 doubled (t ∷ toks) = t ∷ doubled toks
 
-abbrev pub is_body : ReadingKind → Bool
-is_body reading.Body = true
-is_body r = false
-
 abbrev pub tokens_met : List Tok → List Reading → Config → Performed
 tokens_met toks [] c = put toks c
 tokens_met toks (r ∷ readings) c =
     if is_body r.kind then on (record c { readings = record { kind = reading.Body; given = r.given ++ map AToken (doubled toks) } ∷ readings }) else put toks c
+
+-- a token register is no quantity; its number is read for `\the` alone
+abbrev pub is_tokens : Indexed → Bool
+is_tokens indexed.Toks = true
+is_tokens i = false
 
 -- a quantity that has still to be read for this reading
 abbrev pub more_to_read : Internal → ReadingKind → List Given → Config → Performed
@@ -380,10 +392,14 @@ more_to_read i r given c = word_opened CounterValue (with_reading r given c)
 abbrev pub internal_to : ReadingKind → List Given → Internal → (Internal → Config → Performed) → Config → Performed
 internal_to (reading.Scan k purpose) given (Known q) more c = scan_quantity k purpose given q more c
 internal_to (reading.Scan k purpose) given (Tokens toks) more c = scan_quantity k purpose given quantity.NotOne more c
+internal_to (reading.Scan k purpose) given (Picked i) more c =
+    if is_tokens i then scan_quantity k purpose given quantity.NotOne more c else more_to_read (Picked i) (reading.Scan k purpose) given c
 internal_to reading.The given (Known q) more c = as_text (quantity_text q) c
 internal_to reading.The given (Tokens toks) more c = tokens_met toks c.readings c
 internal_to reading.Quantity given (Known q) more c = answered (answer.Quantity q) c
 internal_to reading.Quantity given (Tokens toks) more c = answered (answer.Quantity quantity.NotOne) c
+internal_to reading.Quantity given (Picked i) more c =
+    if is_tokens i then answered (answer.Quantity quantity.NotOne) c else more_to_read (Picked i) reading.Quantity given c
 internal_to r given i more c = more_to_read i r given c
 
 abbrev pub internal_given : List Reading → Internal → Config → Performed
@@ -444,6 +460,15 @@ abbrev pub asked_of : Want → Option Meaning → ScanKind → Purpose → List 
 asked_of want.Quantity m k purpose all more c = internal_met m (reading.Scan k purpose) all more c
 asked_of asked m k purpose all more c = looking (looks_of_font c) (font_size (present_font c) asked k purpose all more c)
 
+-- the name of a file begins behind spaces: no name ends at the first of them
+abbrev pub file_ended : List ℕ → List Given → List Given → Config → Performed
+file_ended name [] all c = if is_empty name then kept reading.File [] c else file_met (Ended name []) all c
+file_ended name (g ∷ rest) all c = file_met (Ended name (g ∷ rest)) all c
+
+abbrev pub file_given : Meant (List ℕ) → List Given → Config → Performed
+file_given (Ended name rest) all c = file_ended name rest all c
+file_given met all c = file_met met all c
+
 abbrev pub scan_token : Option Meaning → ScanKind → Purpose → List Given → (Internal → Config → Performed) → Config → Performed
 scan_token m k purpose all more c = scan_as (meant k all) k purpose all (λ asked. asked_of asked m k purpose all more c) more c
 
@@ -454,7 +479,7 @@ handed_to m tok (reading.Word purpose) given more c = let all = given ++ AToken 
 handed_to m tok reading.Name given more c =
     if ends_name m then named (map character_code (tokens_in given)) c
     else (if is_character tok then kept reading.Name (given ++ AToken tok ∷ []) c else stopped kind.TokenMisplaced c)
-handed_to m tok reading.File given more c = let all = given ++ AToken tok ∷ [] in file_met (file_name [] all) all c
+handed_to m tok reading.File given more c = let all = given ++ AToken tok ∷ [] in file_given (file_name [] all) all c
 handed_to m tok reading.Body given more c = let all = given ++ AToken tok ∷ [] in body_met (body 0 [] all) all c
 handed_to m tok (reading.Codes pairing None) given more c = kept (reading.Codes pairing (Some (seen_as pairing tok m))) [] c
 handed_to m tok (reading.Codes pairing (Some first)) given more c = decided (chosen (pair_kind pairing) (pos first) (pos (seen_as pairing tok m))) c
@@ -473,7 +498,6 @@ handed m tok (r ∷ readings) c = handed_to m tok r.kind r.given (internal_given
 
 abbrev pub end_met : ReadingKind → List Given → (Internal → Config → Performed) → Config → Performed
 end_met (reading.Scan k purpose) given more c = scan_token None k purpose (given ++ AnEnd ∷ []) more c
-end_met reading.File given more c = let all = given ++ AnEnd ∷ [] in file_met (file_name [] all) all c
 end_met r given more c = stopped kind.Runaway c
 
 abbrev pub at_end : List Reading → Config → Performed
@@ -482,12 +506,13 @@ at_end (r ∷ readings) c = end_met r.kind r.given (internal_given readings) (re
 
 -- ---- Commands
 
+abbrev pub is_held_as : ReadingKind → Bool
+is_held_as (reading.Held t) = true
+is_held_as r = false
+
 abbrev pub is_held : List Reading → Bool
 is_held [] = false
-is_held (r ∷ readings) = by r.kind where
-  by : ReadingKind → Bool
-  by (reading.Held t) = true
-  by r = false
+is_held (r ∷ readings) = is_held_as r.kind
 
 -- `\noexpand`: the token goes on unexpanded; where `\expandafter` expands it, it stays
 abbrev pub not_expanded : Tok → Config → Performed
@@ -505,7 +530,16 @@ abbrev pub input_met : Tok → Config → Performed
 input_met t c =
     if opens t
     then with_outcome (taken in_file (group true 0 []) c) (looks_taken in_file looks_in_file (group true 0 []) c) (λ toks d. word_behind toks InputFile d)
-    else and_then (put (t ∷ []) c) (opened reading.File)
+    else and_then (put (t ∷ []) c) (opened_uncounted reading.File)
+
+abbrev pub input_begun : Config → Performed
+input_begun c =
+    let passes = ends_pass c.readings in
+    with_outcome (taken (taken_by passes) first_token c) (looks_taken (taken_by passes) (looks_by passes) first_token c) input_met
+
+-- `\expandafter` holds the next token
+abbrev pub next_held : Config → Performed
+next_held c = token_taken c (λ tok d. opened_uncounted (reading.After tok) d)
 
 abbrev pub job_name : Config → List ℕ
 job_name c = unwrap_or (name_of (look c.world c.cells.now cell.Job)) []
@@ -516,7 +550,7 @@ page_printed c =
     looking (cell.PageForm ∷ []) (counter_printed (unwrap_or (form_of (look c.world c.cells.now cell.PageForm)) form.Arabic) (codes "page") c)
 
 abbrev pub expanded : Expandable → Tok → Config → Performed
-expanded ExpandAfter row c = token_taken c (λ tok d. opened (reading.After tok) d)
+expanded ExpandAfter row c = if_room next_held c
 expanded NoExpand row c = not_expanded row c
 expanded CsName row c = opened reading.Name c
 expanded String row c = token_taken c (λ tok d. put (printed (characters_of tok)) d)
@@ -526,7 +560,7 @@ expanded The row c = opened reading.The c
 expanded JobName row c = looking (cell.Job ∷ []) (put (printed (job_name c)) c)
 expanded (Test t) row c = test_opened t c
 expanded (Part stopper) row c = part_met stopper row c.conditionals c
-expanded Input row c = with_outcome (taken plain first_token c) (looks_taken plain looks_of_plain first_token c) input_met
+expanded Input row c = if_room input_begun c
 expanded EndInput row c = on (record c { source = ended_early c.source })
 expanded (Print f) row c = word_opened (PrintCounter f) c
 expanded ThePage row c = page_printed c
@@ -577,7 +611,7 @@ token_met tok c = if wants_plain c.readings then handed None tok c.readings c el
 
 abbrev pub got_met : Got → Config → Performed
 got_met (GotTok tok) c = token_met tok c
-got_met GotEnd c = at_end c.readings c
+got_met GotEnd c = if ends_pass c.readings then at_end c.readings c else stopped kind.Runaway c
 got_met (GotFault kind) c = stopped kind c
 
 -- ---- Steps
@@ -596,7 +630,10 @@ resumed p = and_then p (λ c. resume c.readings c)
 
 -- a step of expansion
 unfoldable pub step : Config → Performed
-step c = let t = plain c in looking (looks_of_plain c) (resumed (got_met t.got t.next))
+step c =
+    let passes = ends_pass c.readings in
+    let t = taken_by passes c in
+    looking (looks_by passes c) (resumed (got_met t.got t.next))
 
 -- ---- Steps to the next that does not go on
 
@@ -616,3 +653,38 @@ next_from (suc turns) c = let p = step c in or_more p.done.went p.done (next_fro
 unfoldable pub noted_from : ℕ → Config → Option StackedNotes → Option StackedNotes
 noted_from zero c n = n
 noted_from (suc turns) c n = let p = step c in or_noted p.done.went (p.noted n) (noted_from turns p.done.next (p.noted n))
+
+-- ---- What a caller asks for
+
+-- more than the steps and the readings that can be open together
+abbrev pub most_turns : ℕ
+most_turns = 2 ^ 70
+
+-- the next token that is not expanded, or what else ends the turns
+unfoldable pub next : Config → Step
+next c = next_from most_turns c
+
+unfoldable pub next_noted : Config → Option StackedNotes → Option StackedNotes
+next_noted c n = noted_from most_turns c n
+
+abbrev pub ran : Config → Performed
+ran c = record { done = next c; noted = next_noted c }
+
+-- a number, a dimension, glue or a keyword
+abbrev pub scan_asked : ScanKind → Config → Performed
+scan_asked k c = and_then (opened (reading.Scan k Asked) c) ran
+
+-- the quantity that begins with a token
+abbrev pub quantity_met : Tok → Config → Performed
+quantity_met tok c = looking (looks_of_meaning tok) (internal_met (meaning_now c tok) reading.Quantity [] (internal_given c.readings) c)
+
+abbrev pub quantity_asked : Tok → Config → Performed
+quantity_asked tok c = and_then (quantity_met tok c) ran
+
+-- a text in braces, expanded to characters
+abbrev pub word_asked : Config → Performed
+word_asked c = and_then (word_opened Asked c) ran
+
+-- a text behind its opening brace, expanded
+abbrev pub body_asked : Config → Performed
+body_asked c = and_then (opened_uncounted reading.Body c) ran

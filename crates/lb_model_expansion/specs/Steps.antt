@@ -1,5 +1,5 @@
 -- Steps: what is done in one, and beside it what is noted.
-use Rattle.std.specs.Prelude.{◌+◌, ◌++◌, ℕ, List, [], ◌∷◌, length, nat_lt, Option, if◌then◌else◌}
+use Rattle.std.specs.Prelude.{◌+◌, ◌++◌, Bool, true, false, ℕ, List, [], ◌∷◌, length, nat_lt, Option, if◌then◌else◌}
 use Rattle.std.specs.Option.{option_map}
 use Rattle.lb_base.specs.declared.fault.Kind.{Kind}
 use Rattle.lb_base.specs.declared.fault.Kind.TheVariants.{BadTfm, DepthLimit, Runaway}
@@ -7,14 +7,16 @@ use Rattle.lb_base.specs.declared.token.Tok.{Tok}
 use Rattle.lb_values.specs.declared.cell.Cell.{Cell}
 use Rattle.lb_model.specs.declared.place.Got.{Got}
 use Rattle.lb_model.specs.declared.place.Got.TheVariants.{Tok as GotTok, End as GotEnd, Fault as GotFault}
-use Rattle.lb_model.specs.Configs.{Config, looks_of_plain, plain, put_all}
+use Rattle.lb_model.specs.declared.open.ReadingKind.{ReadingKind}
+use Rattle.lb_model.specs.declared.open.ReadingKind.TheVariants as reading
+use Rattle.lb_model.specs.Configs.{Config, Reading, looks_by, put_all, taken_by}
 use Rattle.lb_model.specs.Readings.{Outcome, Took}
 use Rattle.lb_model.specs.Readings.Outcome.{Failed, Whole}
 use Rattle.lb_model.specs.Sources.{pending}
 use Rattle.lb_model.specs.Stacked.{StackedNotes, looked_all}
-use Rattle.lb_model_book.specs.declared.expansion.Answer.{Answer}
-use Rattle.lb_model_book.specs.declared.expansion.Went.{Went}
-use Rattle.lb_model_book.specs.declared.expansion.Went.TheVariants.{On, Answered, Stopped, StoppedAt}
+use Rattle.lb_model_expansion.specs.declared.expansion.Answer.{Answer}
+use Rattle.lb_model_expansion.specs.declared.expansion.Went.{Went}
+use Rattle.lb_model_expansion.specs.declared.expansion.Went.TheVariants.{On, Answered, Stopped, StoppedAt}
 
 -- how a step went, and the configuration behind it
 pub record Step : Type 0 where
@@ -73,6 +75,15 @@ outcome_as (Failed kind) c next = stopped kind c
 abbrev pub with_outcome : {X : Type 0} → Took X → List Cell → (X → Config → Performed) → Performed
 with_outcome t cells next = looking cells (outcome_as t.outcome t.next next)
 
+-- no text may end in a body that is read
+abbrev pub is_body : ReadingKind → Bool
+is_body reading.Body = true
+is_body r = false
+
+abbrev pub ends_pass : List Reading → Bool
+ends_pass [] = true
+ends_pass (r ∷ readings) = if is_body r.kind then false else ends_pass readings
+
 -- the next token, not expanded
 abbrev pub token_as : Got → Config → (Tok → Config → Performed) → Performed
 token_as (GotTok tok) c next = next tok c
@@ -80,4 +91,7 @@ token_as GotEnd c next = stopped Runaway c
 token_as (GotFault kind) c next = stopped kind c
 
 abbrev pub token_taken : Config → (Tok → Config → Performed) → Performed
-token_taken c next = let t = plain c in looking (looks_of_plain c) (token_as t.got t.next next)
+token_taken c next =
+    let passes = ends_pass c.readings in
+    let t = taken_by passes c in
+    looking (looks_by passes c) (token_as t.got t.next next)

@@ -5,9 +5,9 @@ ghost use Rattle.lb_base.specs.declared.token.Category.TheVariants.{Letter, Othe
 ghost use Rattle.lb_base.specs.declared.token.Tok.TheVariants.{Char, Word};
 ghost use Rattle.lb_model.specs.Sources.Item.{Pending};
 ghost use Rattle.lb_model_grammar.specs.Printed.{printed};
-ghost use Rattle.lb_model_book.specs.Steps.{Step};
-ghost use Rattle.lb_model_book.specs.Worked.{control, expansion, tokens};
-ghost use Rattle.lb_model_book.specs.declared.expansion.Went.TheVariants.{Gave, Over, Stopped};
+ghost use Rattle.lb_model_expansion.specs.Steps.{Step};
+ghost use Rattle.lb_model_expansion.specs.Worked.{control, expansion, tokens};
+ghost use Rattle.lb_model_expansion.specs.declared.expansion.Went.TheVariants.{Gave, Over, Stopped};
 
 /// The parts of conditionals: `\ifnum`, `\ifcase`, and one whose end does not come.
 #[tactic(auto, unfolding(crate::specs::Expansion::step, crate::specs::Expansion::next_from, lb_model::specs::Readings::taken))]

@@ -1,0 +1,9 @@
+use Rattle.lb_model_expansion.specs.Expansion.{handed_to}
+use Rattle.lb_expand.specs.Opens.{reading_of}
+use Rattle.lb_expand.proofs.CloseLemmas.{hands-performs}
+use Rattle.lb_expand.proofs.feeder.Feeder.hand_to.Goals as goal
+
+pub returns-clause-performs : goal.returns-clause-performs
+returns-clause-performs g c =
+    let r = reading_of c.args.opened in
+    hands-performs (handed_to c.args.meaning.now c.args.tok r.kind r.given) c.in_ok-closed.closed c.close.result c.in_ok-closed.ensures.closes c.close.ensures.performs

@@ -1,0 +1,7 @@
+//! Expansion: what one step of it does, and what is noted beside it.
+#![tactic(auto)]
+
+pub mod expansion;
+pub mod rows;
+
+pub use expansion::{Answer, Went};
