@@ -366,7 +366,7 @@ class Feeder:
         self.piece = Text(name, number, data)
         self.list = [self.piece]
         self.pending = 0
-        self.inputs = 0
+        self.texts = 1
         self.place = name, number
         self.left = steps
         self.mode = mode
@@ -388,28 +388,37 @@ class Feeder:
         return self.list.pop()
 
     def of_text(self, file):
-        """The next token of a text, None where it ends."""
-        token = file.token(self.cells.category)
-        if token is not None:
-            self.step()
+        """The next token of a text, None where it ends. Its place is taken before its step, and so is that of an invalid character."""
+        try:
+            token = file.token(self.cells.category)
+        except Fault:
             self.place = file.name, file.number
+            self.step()
+            raise
+        if token is not None:
+            self.place = file.name, file.number
+            self.step()
         return token
 
     def plain(self, skipping=False):
-        """The next token as it is, None where the piece ends. No text may end in an expanded body."""
-        while True:
+        """The next token as it is, None where the piece ends. A text is open until its end is found here. No text may end in an expanded
+        body."""
+        while self.list:
             if isinstance(self.list[-1], str):
                 return self.pending_token()
             token = self.of_text(self.list[-1])
-            if token is None and self.in_body and not skipping:
-                raise Fault('Runaway')
-            if token is not None or len(self.list) == 1:
+            if token is not None:
                 return token
+            if self.in_body and not skipping:
+                raise Fault('Runaway')
             self.list.pop()
-            self.inputs -= 1
+            self.texts -= 1
+        return None
 
     def in_file(self):
         """The next token as it is, None where a text ends before it; that text stays."""
+        if not self.list:
+            return None
         if isinstance(self.list[-1], str):
             return self.pending_token()
         return self.of_text(self.list[-1])
@@ -422,7 +431,7 @@ class Feeder:
         self.pending += len(tokens)
 
     def innermost(self):
-        return next(item for item in reversed(self.list) if not isinstance(item, str))
+        return next((item for item in reversed(self.list) if not isinstance(item, str)), None)
 
     # readings inside one another
 
@@ -567,7 +576,7 @@ class Feeder:
         if body is None:
             self.back(*tokens)
         else:
-            put(body, tokens)
+            put(body, doubled(tokens))
 
     def register_tokens(self, token):
         """The tokens of the token register that begins with this token, None where none does."""
@@ -588,9 +597,9 @@ class Feeder:
             name += b'.tex'
         if name not in self.cells.files:
             raise Fault('FileMissing')
-        if self.inputs == MOST_FILES:
+        if self.texts > MOST_FILES:
             raise Fault('DepthLimit')
-        self.inputs += 1
+        self.texts += 1
         self.log.append(b'File ' + name)
         self.list.append(Text(name, 1, self.cells.files[name]))
 
@@ -618,7 +627,8 @@ class Feeder:
         return bytes(name)
 
     def end_input(self):
-        self.innermost().end_after_line()
+        if text := self.innermost():
+            text.end_after_line()
 
     # texts expanded to characters, and expanded bodies
 
@@ -911,6 +921,11 @@ def put(found, tokens):
     if len(found) + len(tokens) > MOST_TOKENS:
         raise Fault('DepthLimit')
     found += tokens
+
+
+def doubled(tokens):
+    """A body has a parameter character that is no parameter as two."""
+    return [token for token in tokens for _ in range(2 if token.startswith('c6:') else 1)]
 
 
 def parts_of_pattern(pattern):

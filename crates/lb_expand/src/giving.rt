@@ -89,7 +89,8 @@ impl<'a, C: Cells> Feeder<'a, C> {
         meaning: &Option<Meaning>,
         tok: &Tok,
     ) -> Result<Went, NoMemory>
-        ensures performs { PerformsOver C.Cells (λ c. if ends_name meaning.now then named (map character_code (tokens_in text)) c else (if is_character tok.now then kept reading.Name (text ++ AToken tok.now ∷ []) c else stopped TokenMisplaced c)) result self.new self.old }
+        ensures performs { PerformsOver C.Cells (λ c. if ends_name meaning.now then named (map character_code (tokens_in text)) c else (if is_character tok.now then
+            kept reading.Name (text ++ AToken tok.now ∷ []) c else stopped TokenMisplaced c)) result self.new self.old }
         ensures same_cells { self.new.cells.ghost_name ≡ self.old.cells.ghost_name }
         ensures same_desk { self.new.desk.ghost_name ≡ self.old.desk.ghost_name }
     {

@@ -217,7 +217,8 @@ impl Readings {
 
     /// The innermost reading, where that is of a body, which is taken. After want of memory the innermost reading is lost.
     pub fn take_body(&mut self) -> Result<Option<BodyText>, NoMemory>
-        ensures { IfOk result (λ body. MatchOption body ((self.new ≡ self.old) × (is_body_first self.old ≡ false)) (λ text. self.old ≡ reading_of (Opened.Body text) ∷ self.new)) }
+        ensures { IfOk result (λ body. MatchOption body ((self.new ≡ self.old) × (is_body_first self.old ≡ false)) (λ text. self.old ≡ reading_of
+            (Opened.Body text) ∷ self.new)) }
     {
         match self.take() {
             None => Ok(None),
@@ -264,7 +265,8 @@ impl Readings {
     /// The token of the innermost reading, where that is an `\expandafter` that has its second token expanded; the reading is taken. After
     /// want of memory that reading is lost.
     pub fn take_held(&mut self) -> Result<Option<Tok>, NoMemory>
-        ensures { IfOk result (λ tok. MatchOption tok ((self.new ≡ self.old) × (is_held self.old ≡ false)) (λ t. self.old ≡ reading_of (Opened.Held t) ∷ self.new)) }
+        ensures { IfOk result (λ tok. MatchOption tok ((self.new ≡ self.old) × (is_held self.old ≡ false)) (λ t. self.old ≡ reading_of (Opened.Held t) ∷
+            self.new)) }
     {
         if !self.is_held() {
             return Ok(None);

@@ -78,7 +78,8 @@ impl<'a, C: Cells> Feeder<'a, C> {
 
     // A scan is given a size of the present font.
     fn give_size(&mut self, scan: Scan, purpose: Purpose, want: Want) -> Result<Closed, NoMemory>
-        ensures closes { ClosesOver C.Cells (λ more c. looking (looks_of_font c) (font_size (present_font c) want scan.kind purpose scan.given more c)) result self.new self.old }
+        ensures closes { ClosesOver C.Cells (λ more c. looking (looks_of_font c) (font_size (present_font c) want scan.kind purpose scan.given more c)) result
+            self.new self.old }
         ensures same_cells { self.new.cells.ghost_name ≡ self.old.cells.ghost_name }
         ensures same_desk { self.new.desk.ghost_name ≡ self.old.desk.ghost_name }
     {

@@ -39,10 +39,17 @@ pub(crate) fn take<C: Cells>(
     passes: bool,
 ) -> Result<Option<Tok>, Stop>
     ensures told { Told C.Cells cells.new cells.old }
-    ensures ok { IfOk result (λ tok. (p : Setting) → C.agrees cells.new p → taken_by passes (config p.world (C.meaning cells.old p) desk.old) ≡ record { got = asked tok; next = config p.world (C.meaning cells.new p) desk.new }) }
-    ensures fault { IfErr result (λ e. MayStopAt e (λ k. (p : Setting) → C.agrees cells.new p → taken_by passes (config p.world (C.meaning cells.old p) desk.old) ≡ record { got = GotFault k; next = config p.world (C.meaning cells.new p) desk.new })) }
-    ensures notes { OnOk result ((p : Setting) → C.agrees cells.new p → C.notes cells.new ≡ option_map (noted_all (looks_by passes (config p.world (C.meaning cells.old p) desk.old))) (C.notes cells.old)) }
-    ensures notes_on_fault { IfErr result (λ e. MayStopAt e (λ k. (p : Setting) → C.agrees cells.new p → C.notes cells.new ≡ option_map (noted_all (looks_by passes (config p.world (C.meaning cells.old p) desk.old))) (C.notes cells.old))) }
+    ensures ok { IfOk result (λ tok. (p : Setting) → C.agrees cells.new p → taken_by passes (config p.world (C.meaning cells.old p) desk.old) ≡ record {
+      got =
+          asked tok;
+      next = config p.world (C.meaning cells.new p) desk.new;
+    }) }
+    ensures fault { IfErr result (λ e. MayStopAt e (λ k. (p : Setting) → C.agrees cells.new p → taken_by passes (config p.world (C.meaning cells.old p) desk.old)
+        ≡ record { got = GotFault k; next = config p.world (C.meaning cells.new p) desk.new })) }
+    ensures notes { OnOk result ((p : Setting) → C.agrees cells.new p → C.notes cells.new ≡ option_map (noted_all (looks_by passes (config p.world (C.meaning
+        cells.old p) desk.old))) (C.notes cells.old)) }
+    ensures notes_on_fault { IfErr result (λ e. MayStopAt e (λ k. (p : Setting) → C.agrees cells.new p → C.notes cells.new ≡ option_map (noted_all (looks_by passes (config
+        p.world (C.meaning cells.old p) desk.old))) (C.notes cells.old))) }
     ensures groups { desk.new.groups ≡ desk.old.groups }
 {
     match desk.source.next(desk.alloc, cells, passes, &mut desk.place) {
@@ -96,7 +103,8 @@ pub(crate) fn sense_of<C: Cells>(cells: &mut C, tok: &Tok) -> Result<Option<Mean
 /// The next token, which a command takes without expansion.
 pub(crate) fn take_token<C: Cells>(cells: &mut C, desk: &mut Desk) -> Result<Taken, NoMemory>
     ensures told { Told C.Cells cells.new cells.old }
-    ensures taken { IfOk result (λ t. (next : AToken → Config → Performed) → Passes C.Cells (λ c. token_taken c next) (behind_taken t next) cells.new desk.new cells.old desk.old) }
+    ensures taken { IfOk result (λ t. (next : AToken → Config → Performed) → Passes C.Cells (λ c. token_taken c next) (behind_taken t next) cells.new desk.new
+        cells.old desk.old) }
 {
     let passes = desk.readings.ends_pass();
     match take(cells, desk, passes) {

@@ -48,7 +48,8 @@ fn same_meaning(one: &Option<Meaning>, other: &Option<Meaning>) -> bool
 impl<'a, C: Cells> Feeder<'a, C> {
     // A part is chosen by whether two tokens mean the same.
     fn compare(&mut self, first: &Tok, second: &Tok) -> Result<Went, NoMemory>
-        ensures performs { PerformsOver C.Cells (λ c. looking (looks_of_meaning first.now ++ looks_of_meaning second.now) (decided (if_true (same_meaning (meaning_of_token c first.now) (meaning_of_token c second.now))) c)) result self.new self.old }
+        ensures performs { PerformsOver C.Cells (λ c. looking (looks_of_meaning first.now ++ looks_of_meaning second.now) (decided (if_true (same_meaning
+            (meaning_of_token c first.now) (meaning_of_token c second.now))) c)) result self.new self.old }
         ensures same_cells { self.new.cells.ghost_name ≡ self.old.cells.ghost_name }
         ensures same_desk { self.new.desk.ghost_name ≡ self.old.desk.ghost_name }
     {
@@ -71,7 +72,8 @@ impl<'a, C: Cells> Feeder<'a, C> {
 
     // Takes the second token of `\ifx`.
     fn compare_with(&mut self, first: &Tok) -> Result<Went, NoMemory>
-        ensures performs { PerformsOver C.Cells (λ d. token_taken d (λ second e. looking (looks_of_meaning first.now ++ looks_of_meaning second) (decided (if_true (same_meaning (meaning_of_token e first.now) (meaning_of_token e second))) e))) result self.new self.old }
+        ensures performs { PerformsOver C.Cells (λ d. token_taken d (λ second e. looking (looks_of_meaning first.now ++ looks_of_meaning second) (decided (if_true
+            (same_meaning (meaning_of_token e first.now) (meaning_of_token e second))) e))) result self.new self.old }
         ensures same_cells { self.new.cells.ghost_name ≡ self.old.cells.ghost_name }
         ensures same_desk { self.new.desk.ghost_name ≡ self.old.desk.ghost_name }
     {

@@ -1,0 +1,5 @@
+pub mod Counters
+pub mod Effects
+pub mod Labels
+pub mod Laws
+pub mod Worked
