@@ -23,7 +23,7 @@ use lb_rows::Command;
 use lb_values::Meaning;
 use lb_words::{BodyText, BodyTurn, FileName, FileTurn, NameText, WordText, WordTurn};
 
-fn is_character(tok: &Tok) -> bool
+pub(crate) fn is_character(tok: &Tok) -> bool
     ensures { result ≡ is_character tok.now }
 {
     matches!(tok, Tok::Char(_, _))

@@ -166,6 +166,13 @@ impl Readings {
         }
     }
 
+    /// Whether none is open. Takes no memory.
+    pub fn is_empty(&self) -> bool
+        ensures { result ≡ true → self.now ≡ [] }
+    {
+        self.items.is_empty()
+    }
+
     /// Whether one more may open that counts.
     pub fn has_room(&self) -> bool
         ensures { result ≡ nat_lt (counted self.now) 10000 }

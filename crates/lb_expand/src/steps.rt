@@ -15,6 +15,7 @@ ghost use Rattle.lb_expand.specs.Works.{Leads, Works};
 
 use crate::desk::Desk;
 use crate::feeder::Feeder;
+use crate::giving::is_character;
 use crate::taking::{meaning_of, take};
 use lb_args::match_arguments;
 use lb_base::{Kind, NoMemory, Stop, Tok};
@@ -175,12 +176,15 @@ impl<'a, C: Cells> Feeder<'a, C> {
         self.meet_as(meaning, tok)
     }
 
-    // A token goes to a reading as it is where that wants it so.
+    // A token goes to a reading as it is where that wants it so. A character is given at once where no reading is open.
     fn meet_token(&mut self, tok: Tok) -> Result<Went, NoMemory>
         ensures performs { PerformsOver C.Cells (token_met tok) result self.new self.old }
         ensures same_cells { self.new.cells.ghost_name ≡ self.old.cells.ghost_name }
         ensures same_desk { self.new.desk.ghost_name ≡ self.old.desk.ghost_name }
     {
+        if self.desk.readings.is_empty() && is_character(&tok) {
+            return Ok(Went::Gave(tok));
+        }
         if self.desk.readings.wants_plain() {
             return self.hand(&None, tok);
         }
