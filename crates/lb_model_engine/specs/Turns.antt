@@ -1,0 +1,260 @@
+-- The main control: what is done with a token that is not expanded, and a text from its beginning to its end (TeXbook, chapters 24 and 25; tex.web,
+-- part 46).
+use Rattle.std.specs.Prelude.{Bool, true, false, ℕ, zero, suc, pos, List, [], ◌∷◌, Option, Some, None, is_some, if◌then◌else◌}
+use Rattle.lb_base.specs.declared.fault.Fault.{Fault}
+use Rattle.lb_base.specs.declared.fault.Kind.{Kind}
+use Rattle.lb_base.specs.declared.fault.Kind.TheVariants.{AlignRefused, GroupOpen, IfOpen, MathRefused, NotYet, StepLimit, TokenMisplaced}
+use Rattle.lb_base.specs.declared.token.Category.{Category}
+use Rattle.lb_base.specs.declared.token.Category.TheVariants as category
+use Rattle.lb_base.specs.declared.token.Tok.{Tok}
+use Rattle.lb_rows.specs.declared.command.Command.{Command}
+use Rattle.lb_rows.specs.declared.command.Command.TheVariants as command
+use Rattle.lb_values.specs.Registers.{register_cell}
+use Rattle.lb_values.specs.declared.cell.Cell.TheVariants as cell
+use Rattle.lb_values.specs.declared.cell.RegisterKind.TheVariants as register
+use Rattle.lb_values.specs.declared.meaning.Meaning.{Meaning}
+use Rattle.lb_values.specs.declared.meaning.Meaning.TheVariants as meaning
+use Rattle.lb_values.specs.declared.reach.Reach.TheVariants.{Local}
+use Rattle.lb_model.specs.declared.place.Mode.TheVariants.{Vertical as VerticalMode}
+use Rattle.lb_model.specs.declared.place.Place.{Place}
+use Rattle.lb_model.specs.declared.world.World.{World}
+use Rattle.lb_model.specs.Configs.{Config}
+use Rattle.lb_model.specs.Expandables.{expandable}
+use Rattle.lb_model.specs.Kinds.{steps_of}
+use Rattle.lb_model.specs.Meanings.{undefined}
+use Rattle.lb_model.specs.Settings.{State, look}
+use Rattle.lb_model.specs.Sources.{FileText}
+use Rattle.lb_model.specs.Sources.Item.{Text}
+use Rattle.lb_base.specs.declared.node.Axis.TheVariants.{Horizontal, Vertical}
+use Rattle.lb_model_engine.specs.declared.definition.NewKind.TheVariants.{New, Renew, Provide}
+use Rattle.lb_model_engine.specs.declared.nest.BoxContext.TheVariants.{Shifted}
+use Rattle.lb_model_engine.specs.declared.nest.ListKind.TheVariants as list
+use Rattle.lb_model_engine.specs.declared.turn.Went.{Went}
+use Rattle.lb_model_engine.specs.declared.turn.Went.TheVariants as went
+use Rattle.lb_model_engine.specs.Boxes.{box_begun, box_copied, box_taken, discretionary, end_group, footnote, lower, markboth, markright, raise, vadjust}
+use Rattle.lb_model_engine.specs.Counting.{addcontentsline, addtocounter, include, label, matter, newcounter, pagenumbering, pageref, pagestyle, ref_row, refstepcounter, setcounter, size_row, stepcounter, style_row}
+use Rattle.lb_model_engine.specs.Definitions.{new_register, newcommand, newenvironment, newif}
+use Rattle.lb_model_engine.specs.Documents.{begin_row, documentclass, includeonly, toc_row}
+use Rattle.lb_model_engine.specs.Groups.{aftergroup, begin_group_character, begingroup, endgroup}
+use Rattle.lb_model_engine.specs.Headings.{contentsline, head_row}
+use Rattle.lb_model_engine.specs.Items.{discretionary_hyphen, fil, fill, horizontal_glue, hrule, hskip, hspace, ignorespaces, indent, italic_correction, kern, leavevmode, line_break, noindent, par, penalty, plainnext, ss, unskip, vertical_glue, vrule, vskip, vspace}
+use Rattle.lb_model_engine.specs.Lists.{endlist_row, item_row, list_row}
+use Rattle.lb_model_engine.specs.Pages.{page_cleared}
+use Rattle.lb_model_engine.specs.Paragraphs.{paragraph_ended}
+use Rattle.lb_model_engine.specs.Prefixes.{assignment, global_row, long_row}
+use Rattle.lb_model_engine.specs.Reads.{next_or}
+use Rattle.lb_model_engine.specs.Registers.{variable_row}
+use Rattle.lb_model_engine.specs.Texts.{changecase, typeout}
+use Rattle.lb_model_engine.specs.Wholes.{Executed, Whole, and_as, and_then, executed, new_level, on, stop, stop_at}
+use Rattle.lb_model_engine.specs.Words.{char, character, control_space, space, word_ended}
+
+-- ---- Commands
+
+-- a command that is expanded does nothing where it is not
+abbrev pub other_row : Command → Whole → Executed
+other_row c w = if is_some (expandable c) then on w else stop NotYet w
+
+-- commands that are no assignments; none of these is expanded
+abbrev pub command_row : Command → Whole → Executed
+command_row command.Relax w = on w
+command_row command.EndCsName w = stop TokenMisplaced w
+command_row command.Value w = stop TokenMisplaced w
+command_row command.Long w = long_row w
+command_row command.Global w = global_row w
+command_row command.BeginGroup w = begingroup w
+command_row command.EndGroup w = endgroup w
+command_row command.AfterGroup w = aftergroup w
+command_row command.NewIf w = newif w
+command_row command.NewCommand w = newcommand New w
+command_row command.RenewCommand w = newcommand Renew w
+command_row command.ProvideCommand w = newcommand Provide w
+command_row command.NewEnvironment w = newenvironment New w
+command_row command.RenewEnvironment w = newenvironment Renew w
+command_row command.NewCount w = new_register register.Count w
+command_row command.NewDimen w = new_register register.Dimen w
+command_row command.NewSkip w = new_register register.Skip w
+command_row command.NewLength w = new_register register.Skip w
+command_row command.NewToks w = new_register register.Toks w
+command_row command.NewSaveBox w = new_register register.Boxed w
+command_row command.Uppercase w = changecase cell.Uc w
+command_row command.Lowercase w = changecase cell.Lc w
+command_row command.HBox w = box_begun Horizontal (Shifted (pos 0)) w
+command_row command.VBox w = box_begun Vertical (Shifted (pos 0)) w
+command_row command.Box w = box_taken (Shifted (pos 0)) w
+command_row command.Copy w = box_copied (Shifted (pos 0)) w
+command_row command.Raise w = raise w
+command_row command.Lower w = lower w
+command_row command.HRule w = hrule w
+command_row command.VRule w = vrule w
+command_row command.Par w = par w
+command_row command.Indent w = indent w
+command_row command.NoIndent w = noindent w
+command_row command.LeaveVMode w = leavevmode w
+command_row command.PlainNext w = plainnext w
+command_row command.HSkip w = hskip w
+command_row command.HFil w = horizontal_glue fil w
+command_row command.HFill w = horizontal_glue fill w
+command_row command.Hss w = horizontal_glue ss w
+command_row command.VSkip w = vskip w
+command_row command.VFil w = vertical_glue fil w
+command_row command.VFill w = vertical_glue fill w
+command_row command.Vss w = vertical_glue ss w
+command_row command.Kern w = kern w
+command_row command.Penalty w = penalty w
+command_row command.UnSkip w = unskip w
+command_row command.IgnoreSpaces w = ignorespaces w
+command_row command.ControlSpace w = control_space w
+command_row command.ItalicCorrection w = italic_correction w
+command_row command.DiscretionaryHyphen w = discretionary_hyphen w
+command_row command.Discretionary w = discretionary w
+command_row command.VAdjust w = vadjust w
+command_row command.Insert w = footnote w
+command_row command.LineBreak w = line_break w
+command_row command.HSpace w = hspace w
+command_row command.VSpace w = vspace w
+command_row command.MarkBoth w = markboth w
+command_row command.MarkRight w = markright w
+command_row command.NewCounter w = newcounter w
+command_row command.SetCounter w = setcounter w
+command_row command.AddToCounter w = addtocounter w
+command_row command.StepCounter w = stepcounter w
+command_row command.RefStepCounter w = refstepcounter w
+command_row command.Label w = label w
+command_row command.Ref w = ref_row w
+command_row command.PageRef w = pageref w
+command_row command.AddContentsLine w = addcontentsline w
+command_row command.TypeOut w = typeout w
+command_row command.PageStyle w = pagestyle cell.PageStyle w
+command_row command.ThisPageStyle w = pagestyle cell.ThisStyle w
+command_row command.PageNumbering w = pagenumbering w
+command_row command.Style w = style_row w
+command_row command.Size w = size_row w
+command_row command.Matter w = matter w
+command_row command.Include w = include w
+command_row command.BeginList w = list_row w
+command_row command.EndList w = endlist_row w
+command_row command.Item w = item_row w
+command_row command.Head w = head_row w
+command_row command.ContentsLine w = contentsline w
+command_row command.DocumentClass w = documentclass w
+command_row command.IncludeOnly w = includeonly w
+command_row command.Toc w = toc_row w
+command_row command.Begin w = begin_row w
+command_row c w = other_row c w
+
+-- ---- Tokens
+
+-- the word before ends
+abbrev pub behind_word : (Whole → Executed) → Whole → Executed
+behind_word row w = and_then (word_ended w) row
+
+-- a character by its category, or a control sequence that means one
+abbrev pub character_row : Category → ℕ → Whole → Executed
+character_row category.BeginGroup code w = behind_word begin_group_character w
+character_row category.EndGroup code w = behind_word end_group w
+character_row category.Space code w = space w
+character_row category.Letter code w = character code w
+character_row category.Other code w = character code w
+character_row category.MathShift code w = behind_word (stop MathRefused) w
+character_row category.Superscript code w = behind_word (stop MathRefused) w
+character_row category.Subscript code w = behind_word (stop MathRefused) w
+character_row category.AlignmentTab code w = behind_word (stop AlignRefused) w
+character_row cat code w = behind_word (stop TokenMisplaced) w
+
+-- `\char` goes on with the word
+abbrev pub row_by : Command → Option (Whole → Executed) → Whole → Executed
+row_by command.Char assigns w = char w
+row_by c (Some row) w = behind_word row w
+row_by c None w = behind_word (command_row c) w
+
+-- a macro that is not expanded does nothing
+abbrev pub token_row : Tok → Option Meaning → Whole → Executed
+token_row tok None w = behind_word (stop (undefined tok)) w
+token_row tok (Some (meaning.Char cat code)) w = character_row cat code w
+token_row tok (Some (meaning.Number code)) w = character code w
+token_row tok (Some (meaning.Macro definition)) w = behind_word on w
+token_row tok (Some (meaning.Row c)) w = row_by c (assignment (Some (meaning.Row c)) false Local) w
+token_row tok (Some (meaning.Register r)) w = behind_word (variable_row (register_cell r) Local) w
+
+-- ---- The end of a text
+
+abbrev pub open_at : Kind → Place → Fault
+open_at kind place = record { kind = kind; file = place.file; line = place.line }
+
+abbrev pub is_none : {X : Type 0} → List X → Bool
+is_none [] = true
+is_none (x ∷ xs) = false
+
+-- the paragraph ends, and the page is cleared
+abbrev pub cleared : Whole → Executed
+cleared w = and_then (and_then (and_then (word_ended w) paragraph_ended) page_cleared) (executed went.Over)
+
+-- a group or a conditional that is open is a fault at this place
+abbrev pub ended : Place → Whole → Executed
+ended last w =
+    if is_none w.feed.groups
+    then (if is_none w.feed.conditionals then cleared w else stop_at (open_at IfOpen last) w)
+    else stop_at (open_at GroupOpen last) w
+
+-- ---- Turns
+
+-- where text is skipped up to the end, the fault is there too
+abbrev pub at_end_as : Went → Place → Executed → Executed
+at_end_as (went.Stopped IfOpen) last e = record { done = record { went = went.StoppedAt (open_at IfOpen last); next = e.done.next }; noted = e.noted }
+at_end_as way last e = e
+
+abbrev pub at_end : Place → Executed → Executed
+at_end last e = at_end_as e.done.went last e
+
+-- the next token that is not expanded, and what is done with it; the text ends at this place
+unfoldable pub turn : Place → Whole → Executed
+turn last w = at_end last (next_or (ended last) token_row w)
+
+-- within so many turns
+abbrev pub or_more : Went → Executed → Executed → Executed
+or_more went.On e more = and_as went.On e more
+or_more way e more = e
+
+unfoldable pub turns : ℕ → Place → Whole → Executed
+turns zero last w = stop StepLimit w
+turns (suc left) last w = let e = turn last w in or_more e.done.went e (let more = turns left last e.done.next in more)
+
+-- each turn but the last takes a step, so the steps are enough
+abbrev pub text_set : Place → Whole → Executed
+text_set last w = turns (suc w.feed.left) last w
+
+-- ---- A text from the beginning
+
+-- no open group, conditional or list, and an empty page
+abbrev pub whole_of : Config → Whole
+whole_of c =
+    record {
+      feed = c;
+      level = new_level list.Page;
+      around = [];
+      word = [];
+      font = None;
+      page = [];
+      after = [];
+      lists = [];
+      plain_next = false;
+    }
+
+abbrev pub config_of : FileText → World → State → ℕ → Config
+config_of text world state left =
+    record {
+      world = world;
+      cells = record { now = state; earlier = [] };
+      groups = [];
+      source = Text text ∷ [];
+      place = Some (record { file = text.file; line = text.line });
+      conditionals = [];
+      readings = [];
+      mode = VerticalMode;
+      appends = [];
+      left = left;
+    }
+
+-- with as many steps as the cell of steps tells
+abbrev pub begun : FileText → World → State → Whole
+begun text world state = whole_of (config_of text world state (steps_of (look world state cell.Steps)))

@@ -1,0 +1,152 @@
+//! Rows that were worked out by hand.
+ghost use Rattle.std.specs.Prelude.{◌≡◌, ◌++◌, ◌∷◌, [], map, codes, length, false, true, pos, None, Some};
+ghost use Rattle.lb_base.specs.declared.fault.Kind.TheVariants as kind;
+ghost use Rattle.lb_base.specs.declared.token.Category.TheVariants.{AlignmentTab, BeginGroup, EndGroup, Letter, MathShift, Other, Parameter, Space};
+ghost use Rattle.lb_base.specs.declared.token.Tok.TheVariants.{Char, Param, Word};
+ghost use Rattle.lb_rows.specs.declared.command.Command.TheVariants as command;
+ghost use Rattle.lb_values.specs.declared.cell.Cell.TheVariants as cell;
+ghost use Rattle.lb_values.specs.declared.cell.RegisterKind.TheVariants as registers;
+ghost use Rattle.lb_values.specs.declared.meaning.Meaning.TheVariants as meaning;
+ghost use Rattle.lb_values.specs.declared.meaning.Register.TheVariants as register;
+ghost use Rattle.lb_values.specs.declared.reach.Reach.TheVariants.{Global, Local};
+ghost use Rattle.lb_values.specs.declared.value.PageStyle.TheVariants.{MyHeadings};
+ghost use Rattle.lb_values.specs.declared.value.Value.TheVariants as value;
+ghost use Rattle.lb_model.specs.declared.group.GroupKind.TheVariants.{Material, Semi, Simple};
+ghost use Rattle.lb_model.specs.Sources.Item.{Pending};
+ghost use Rattle.lb_model_engine.specs.declared.definition.NewKind.TheVariants.{New, Provide, Renew};
+ghost use Rattle.lb_model_engine.specs.declared.display.HeadLevel.TheVariants.{Chapter, Section};
+ghost use Rattle.lb_model_engine.specs.declared.turn.Went.TheVariants as went;
+ghost use Rattle.lb_model_engine.specs.Boxes.{raise, vadjust};
+ghost use Rattle.lb_model_engine.specs.Definitions.{def_row, futurelet_row, let_row, new_register, newcommand, newif, plain_macro};
+ghost use Rattle.lb_model_engine.specs.Groups.{aftergroup, begin_group_character, begingroup, endgroup, group_closed};
+ghost use Rattle.lb_model_engine.specs.Documents.{names_between};
+ghost use Rattle.lb_model_engine.specs.Headings.{contents, marks, numberline};
+ghost use Rattle.lb_model_engine.specs.Items.{italic_correction};
+ghost use Rattle.lb_model_engine.specs.Kernel.{kernel_lines};
+ghost use Rattle.lb_model_engine.specs.Lists.{beside, endlist_row, item_row, toks};
+ghost use Rattle.lb_model_engine.specs.Texts.{tokens_of_text};
+ghost use Rattle.lb_model_engine.specs.Turns.{ended, token_row};
+ghost use Rattle.lb_model_engine.specs.Wholes.{and_then, change, on, stop_at};
+ghost use Rattle.lb_model_engine.specs.Worked.{control, digest, held, size_of_lines, tokens, went_of, whole};
+ghost use Rattle.lb_model_engine.specs.Words.{factor_behind};
+
+/// Groups: those that do not match, what is local and what is global, and the tokens that come behind.
+#[tactic(auto, unfolding(crate::specs::Groups::begingroup, crate::specs::Groups::endgroup, crate::specs::Groups::begin_group_character, crate::specs::Groups::group_opened, crate::specs::Groups::group_closed, crate::specs::Groups::aftergroup, lb_values::specs::Cells::cell_eq))]
+pub fn groups()
+    ensures none { went_of (endgroup (whole [])) ≡ went.Stopped kind.GroupExtra }
+    ensures other { went_of (and_then (begin_group_character (whole [])) endgroup) ≡ went.Stopped kind.GroupExtra }
+    ensures matching { went_of (and_then (begingroup (whole [])) endgroup) ≡ went.On }
+    ensures local { held (and_then (and_then (begingroup (whole [])) (change Local (cell.Count 1) (value.Number (pos 5)))) endgroup) (cell.Count 1) ≡ value.Absent }
+    ensures global { held (and_then (and_then (begingroup (whole [])) (change Global (cell.Count 1) (value.Number (pos 5)))) endgroup) (cell.Count 1) ≡ value.Number (pos 5) }
+    ensures in_two { held (and_then (and_then (and_then (and_then (begingroup (whole [])) begin_group_character) (change Global (cell.Count 1) (value.Number (pos 5)))) (group_closed Simple)) endgroup) (cell.Count 1) ≡ value.Number (pos 5) }
+    ensures behind { (and_then (and_then (and_then (begingroup (whole (tokens (codes "xyz")))) aftergroup) aftergroup) endgroup).done.next.feed.source ≡ map Pending (tokens (codes "xyz")) }
+    ensures outside { (aftergroup (whole (tokens (codes "xyz")))).done.next.feed.source ≡ map Pending (tokens (codes "yz")) }
+    ensures runaway { went_of (aftergroup (whole [])) ≡ went.Stopped kind.Runaway }
+{}
+
+/// Copies of meanings: the sign and the spaces around it, and names without meaning.
+#[tactic(auto, unfolding(crate::specs::Definitions::let_row, crate::specs::Definitions::futurelet_row, lb_model::specs::Readings::taken, lb_values::specs::Cells::cell_eq, lb_model::specs::StartState::start_category))]
+pub fn copies()
+    ensures character { held (let_row Local (whole (control (codes "a") ++ tokens (codes "=b")))) (cell.Word (codes "a")) ≡ value.Meaning (meaning.Char Letter 98) }
+    ensures spaces { held (let_row Local (whole (control (codes "a") ++ tokens (codes " = b")))) (cell.Word (codes "a")) ≡ value.Meaning (meaning.Char Letter 98) }
+    ensures alone { held (let_row Local (whole (control (codes "a") ++ tokens (codes "b")))) (cell.Word (codes "a")) ≡ value.Meaning (meaning.Char Letter 98) }
+    ensures sign { held (let_row Local (whole (control (codes "a") ++ tokens (codes "==")))) (cell.Word (codes "a")) ≡ value.Meaning (meaning.Char Other 61) }
+    ensures row { held (let_row Local (whole (control (codes "a") ++ control (codes "relax")))) (cell.Word (codes "a")) ≡ value.Meaning (meaning.Row command.Relax) }
+    ensures no_meaning { held (let_row Local (whole (control (codes "relax") ++ control (codes "zz")))) (cell.Word (codes "relax")) ≡ value.Absent }
+    ensures no_name { went_of (let_row Local (whole (tokens (codes "xy")))) ≡ went.Stopped kind.TokenMisplaced }
+    ensures no_source { went_of (let_row Local (whole (control (codes "a") ++ tokens (codes "=")))) ≡ went.Stopped kind.Runaway }
+    ensures future { held (futurelet_row Local (whole (control (codes "a") ++ tokens (codes "xyz")))) (cell.Word (codes "a")) ≡ value.Meaning (meaning.Char Letter 121) }
+    ensures put_back { (futurelet_row Local (whole (control (codes "a") ++ tokens (codes "xyz")))).done.next.feed.source ≡ map Pending (tokens (codes "xyz")) }
+{}
+
+/// Macros: their parameters, a brace at the end of a parameter text, parameter characters in bodies, and faults.
+#[tactic(auto, unfolding(crate::specs::Definitions::def_row, lb_model::specs::Readings::taken, lb_values::specs::Cells::cell_eq, lb_model::specs::StartState::start_category))]
+pub fn macros()
+    ensures plain { held (def_row false false Local (whole (control (codes "a") ++ tokens (codes "{b}")))) (cell.Word (codes "a")) ≡ plain_macro false [] (Char Letter 98 ∷ []) }
+    ensures long { held (def_row false true Local (whole (control (codes "a") ++ tokens (codes "{b}")))) (cell.Word (codes "a")) ≡ plain_macro true [] (Char Letter 98 ∷ []) }
+    ensures delimited { held (def_row false false Local (whole (control (codes "a") ++ tokens (codes "#1.{b#1}")))) (cell.Word (codes "a")) ≡ plain_macro false (Param 1 ∷ Char Other 46 ∷ []) (Char Letter 98 ∷ Param 1 ∷ []) }
+    ensures brace { held (def_row false false Local (whole (control (codes "a") ++ tokens (codes "#1#{b}")))) (cell.Word (codes "a")) ≡ plain_macro false (Param 1 ∷ Char BeginGroup 123 ∷ []) (Char Letter 98 ∷ Char BeginGroup 123 ∷ []) }
+    ensures doubled { held (def_row false false Local (whole (control (codes "a") ++ tokens (codes "{##}")))) (cell.Word (codes "a")) ≡ plain_macro false [] (Char Parameter 35 ∷ []) }
+    ensures out_of_order { went_of (def_row false false Local (whole (control (codes "a") ++ tokens (codes "#2{b}")))) ≡ went.Stopped kind.TokenMisplaced }
+    ensures no_such_parameter { went_of (def_row false false Local (whole (control (codes "a") ++ tokens (codes "#1{#2}")))) ≡ went.Stopped kind.TokenMisplaced }
+    ensures closing { went_of (def_row false false Local (whole (control (codes "a") ++ tokens (codes "}")))) ≡ went.Stopped kind.TokenMisplaced }
+    ensures cut { went_of (def_row false false Local (whole (control (codes "a") ++ tokens (codes "#")))) ≡ went.Stopped kind.Runaway }
+    ensures open { went_of (def_row false false Local (whole (control (codes "a") ++ tokens (codes "{b")))) ≡ went.Stopped kind.Runaway }
+{}
+
+/// New names: commands, conditionals and registers.
+#[tactic(auto, unfolding(crate::specs::Definitions::newcommand, crate::specs::Definitions::newif, crate::specs::Definitions::new_register, lb_model::specs::Readings::taken, lb_values::specs::Cells::cell_eq, lb_model::specs::StartState::start_category))]
+pub fn names()
+    ensures command { held (newcommand New (whole (control (codes "a") ++ tokens (codes "{b}")))) (cell.Word (codes "a")) ≡ plain_macro true [] (Char Letter 98 ∷ []) }
+    ensures starred { held (newcommand New (whole (tokens (codes "*") ++ control (codes "a") ++ tokens (codes "{b}")))) (cell.Word (codes "a")) ≡ plain_macro false [] (Char Letter 98 ∷ []) }
+    ensures defined { went_of (newcommand New (whole (control (codes "relax") ++ tokens (codes "{b}")))) ≡ went.Stopped kind.AlreadyDefined }
+    ensures renewed { went_of (newcommand Renew (whole (control (codes "zz") ++ tokens (codes "{}")))) ≡ went.Stopped kind.Undefined }
+    ensures provided { held (newcommand Provide (whole (control (codes "relax") ++ tokens (codes "{b}")))) (cell.Word (codes "relax")) ≡ value.Meaning (meaning.Row command.Relax) }
+    ensures no_name { went_of (newcommand New (whole (tokens (codes "{ab}{b}")))) ≡ went.Stopped kind.TokenMisplaced }
+    ensures conditional { held (newif (whole (control (codes "ifa")))) (cell.Word (codes "ifa")) ≡ value.Meaning (meaning.Row command.IfFalse) }
+    ensures switch { held (newif (whole (control (codes "ifa")))) (cell.Word (codes "atrue")) ≡ plain_macro false [] (Word (codes "let") ∷ Word (codes "ifa") ∷ Word (codes "iftrue") ∷ []) }
+    ensures no_conditional { went_of (newif (whole (control (codes "if")))) ≡ went.Stopped kind.TokenMisplaced }
+    ensures register { held (new_register registers.Count (whole (control (codes "a")))) (cell.Word (codes "a")) ≡ value.Meaning (meaning.Register (register.Count 255)) }
+    ensures last { went_of (and_then (new_register registers.Count (whole (control (codes "a") ++ control (codes "b")))) (new_register registers.Count)) ≡ went.Stopped kind.Overflow }
+{}
+
+/// Space factors.
+pub fn factors()
+    ensures usual { factor_behind (pos 1000) (pos 1000) ≡ pos 1000 }
+    ensures sentence { factor_behind (pos 3000) (pos 1000) ≡ pos 3000 }
+    ensures capital { factor_behind (pos 3000) (pos 999) ≡ pos 1000 }
+    ensures parenthesis { factor_behind (pos 0) (pos 3000) ≡ pos 3000 }
+{}
+
+/// Characters that are refused, and commands that may not stand where they do.
+#[tactic(auto, unfolding(lb_rows::specs::Refusals::refused_rows, crate::specs::Counting::include, crate::specs::Boxes::end_group, crate::specs::Groups::end_group_character, crate::specs::Words::word_ended, crate::specs::Lists::item_row, crate::specs::Lists::endlist_row, crate::specs::Paragraphs::paragraph_ended, crate::specs::Boxes::vadjust, crate::specs::Boxes::raise, crate::specs::Items::italic_correction, lb_model::specs::Readings::taken, lb_model::specs::StartState::start_category))]
+pub fn refusals()
+    ensures math { went_of (token_row (Char MathShift 36) (Some (meaning.Char MathShift 36)) (whole [])) ≡ went.Stopped kind.MathRefused }
+    ensures alignment { went_of (token_row (Char AlignmentTab 38) (Some (meaning.Char AlignmentTab 38)) (whole [])) ≡ went.Stopped kind.AlignRefused }
+    ensures parameter { went_of (token_row (Char Parameter 35) (Some (meaning.Char Parameter 35)) (whole [])) ≡ went.Stopped kind.TokenMisplaced }
+    ensures closing { went_of (token_row (Char EndGroup 125) (Some (meaning.Char EndGroup 125)) (whole [])) ≡ went.Stopped kind.GroupExtra }
+    ensures undefined { went_of (token_row (Word (codes "zz")) None (whole [])) ≡ went.Stopped kind.Undefined }
+    ensures refused { went_of (token_row (Word (codes "halign")) None (whole [])) ≡ went.Stopped kind.AlignRefused }
+    ensures name_end { went_of (token_row (Word (codes "endcsname")) (Some (meaning.Row command.EndCsName)) (whole [])) ≡ went.Stopped kind.TokenMisplaced }
+    ensures include { went_of (token_row (Word (codes "include")) (Some (meaning.Row command.Include)) (whole [])) ≡ went.Stopped kind.IncludeInside }
+    ensures item { went_of (item_row (whole (tokens (codes " x")))) ≡ went.Stopped kind.ItemOutside }
+    ensures list_end { went_of (endlist_row (whole [])) ≡ went.Stopped kind.ItemOutside }
+    ensures material { went_of (vadjust (whole [])) ≡ went.Stopped kind.WrongMode }
+    ensures raised { went_of (raise (whole [])) ≡ went.Stopped kind.WrongMode }
+    ensures italic { went_of (italic_correction (whole [])) ≡ went.Stopped kind.WrongMode }
+    ensures not_expanded { went_of (token_row (Word (codes "a")) (Some (meaning.Row command.IfTrue)) (whole [])) ≡ went.On }
+{}
+
+/// Texts and tokens that rows make.
+#[tactic(auto, unfolding(crate::specs::Texts::tokens_of_text, lb_model::specs::Tokens::character, lb_model::specs::Tokens::characters, lb_model::specs::Tokens::next_token, lb_model::specs::StartState::start_category))]
+pub fn made_tokens()
+    ensures names { names_between (codes "a, b") ≡ codes "a" ∷ codes "b" ∷ [] }
+    ensures no_name { names_between [] ≡ [] ∷ [] }
+    ensures item { beside (Char Letter 120 ∷ []) ≡ toks (codes "\\hbox to0pt{\\hss x\\hskip5pt}") }
+    ensures number { numberline (Some (tokens (codes "1"))) ≡ toks (codes "\\numberline{1}") }
+    ensures starred { contents (record { level = Section; starred = true; short = []; title = []; number = None }) ≡ [] }
+    ensures own_marks { marks MyHeadings (record { level = Chapter; starred = false; short = []; title = []; number = None }) ≡ [] }
+{}
+
+/// The end of a text: an open group comes before an open conditional, at the place of the end.
+#[tactic(auto, unfolding(crate::specs::Groups::begingroup, crate::specs::Groups::group_opened))]
+pub fn ends()
+    ensures group { went_of (and_then (begingroup (whole [])) (ended (record { file = codes "a.tex"; line = 7 }))) ≡ went.StoppedAt (record { kind = kind.GroupOpen; file = codes "a.tex"; line = 7 }) }
+{}
+
+/// The kernel text: its lines, its codes, and a number of all of its codes in their order that was worked out elsewhere.
+#[tactic(auto, unfolding(crate::specs::Kernel::kernel_lines))]
+pub fn kernel_text()
+    ensures lines { length kernel_lines ≡ 69 }
+    ensures codes { size_of_lines 0 kernel_lines ≡ 4008 }
+    ensures order { digest 0 kernel_lines ≡ 2684392370 }
+{}
+
+/// Tokens of a text that was written: spaces at its beginning go, and `@` is a letter.
+#[tactic(auto, unfolding(crate::specs::Texts::tokens_of_text, lb_model::specs::Tokens::character, lb_model::specs::Tokens::characters, lb_model::specs::Tokens::next_token, lb_model::specs::StartState::start_category))]
+pub fn written_texts()
+    ensures spaces { tokens_of_text (codes "  a b") ≡ Some (Char Letter 97 ∷ Char Space 32 ∷ Char Letter 98 ∷ []) }
+    ensures name { tokens_of_text (codes "\\a@b 1") ≡ Some (Word (codes "a@b") ∷ Char Other 49 ∷ []) }
+    ensures nothing { tokens_of_text [] ≡ Some [] }
+    ensures invalid { tokens_of_text (127 ∷ []) ≡ None }
+{}
