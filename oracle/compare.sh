@@ -11,8 +11,9 @@ text=$folder/lb_tests_text
 scan=$folder/lb_tests_scan
 board=$folder/lb_tests_board
 record=$folder/lb_tests_record
+aux=$folder/lb_tests_aux
 expand=$folder/lb_tests_expand
-mkdir -p "$paper/data" "$pages" "$text/data" "$scan" "$board" "$record" "$expand"
+mkdir -p "$paper/data" "$pages" "$text/data" "$scan" "$board" "$record" "$aux" "$expand"
 
 # The commands of a crate are given on standard input; its answers come from a script.
 answer() {
@@ -29,8 +30,9 @@ python3 "$here/text_cases.py" "$text/data" | answer "$text" text.py
 python3 "$here/scan_cases.py" | answer "$scan" scan.py
 python3 "$here/board_cases.py" | answer "$board" board.py
 python3 "$here/record_cases.py" | answer "$record" record.py
+python3 "$here/aux_cases.py" | answer "$aux" aux.py
 python3 "$here/expand_cases.py" | answer "$expand" expand.py
-for crate in lb_tests_paper lb_tests_pages lb_tests_text lb_tests_scan lb_tests_board lb_tests_record lb_tests_expand; do
+for crate in lb_tests_paper lb_tests_pages lb_tests_text lb_tests_scan lb_tests_board lb_tests_record lb_tests_aux lb_tests_expand; do
     stored=$here/../crates/$crate
     if [ "$1" = --store ]; then
         if [ -d "$folder/$crate/data" ]; then
