@@ -5,9 +5,9 @@ file is a list of lines, in which a checkpoint is a slice up to the first line t
 import re
 import sys
 
+from aux_counters import COUNTERS, answers, bare, checkpoint, hexed
+
 MARKER = b'\\protected@file@percent'
-START = ['page'] + ['equation', 'enumi', 'enumii', 'enumiii', 'enumiv', 'footnote', 'mpfootnote', 'part', 'chapter', 'section', 'subsection',
-                    'subsubsection', 'paragraph', 'subparagraph', 'figure', 'table']
 
 
 def blanked(line):
@@ -101,14 +101,6 @@ def shown(what):
     return ' '.join([what[0]] + [hexed(part) for part in what[1:]])
 
 
-def hexed(data):
-    return '.' + data.hex()
-
-
-def bare(word):
-    return bytes.fromhex(word[1:])
-
-
 def token(word):
     kind, _, rest = word.partition(':')
     if kind == 'w':
@@ -157,9 +149,10 @@ def answer(words):
         return hexed(b'\\@writefile{' + bare(words[1]) + b'}{\\contentsline {' + bare(words[2]) + b'}{' + written(words[3]) + b'}{' + written(words[4]) + b'}}\n')
     if words[0] == 'log':
         return hexed(event(words[1:]))
-    numbers = dict.fromkeys(START, 0) | {'page': 1} | {name: int(number) for name, number in (word.split('=') for word in words[2:])}
-    lines = [b'\\setcounter{' + name.encode() + b'}{' + str(numbers[name]).encode() + b'}\n' for name in START]
-    return hexed(b'\\@setckpt{' + bare(words[1]) + b'}{\n' + b''.join(lines) + b'}\n')
+    if words[0] == 'counter':
+        return answers(words[1:])
+    numbers = {b'page': 1} | {name.encode(): int(number) for name, number in (word.split('=') for word in words[2:])}
+    return hexed(checkpoint(bare(words[1]), [name.encode() for name in COUNTERS], numbers))
 
 
 if __name__ == '__main__':

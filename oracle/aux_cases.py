@@ -2,9 +2,12 @@
 """Writes the commands of lb_tests_aux. What is drawn is drawn from a fixed seed."""
 import random
 
+from aux_counters import COUNTERS
+
 draw = random.Random(1964)
 
 FILES = 2000
+STEPS = 400
 MARKER = '\\protected@file@percent'
 PIECES = ['a', 'b', '1', ' ', '{', '}', '{}', '{a}', '\\{', '\\}', '\\\\', '\\', '\r', '%', '{{1}{2}}', '{x\\}y}', '\xff', '}{']
 NUMBERS = ['0', '17', '-3', '2147483647', '2147483648', '-2147483647', '-2147483648', '007', '-0', '', '-', '+1', '1 ', '99999999999999999999', '1a', '--1']
@@ -54,6 +57,45 @@ def tokens():
     return '.' + ','.join(draw.choice(kinds) for _ in range(draw.randrange(6)))
 
 
+NEW = ['x', 'y', 'z', '', 'a b', '#1', '\xe9', 'Chapter']
+OTHERS = ['secnumdepth', 'tocdepth', 'none']
+KEYS = ['k', 'l', 'sec:one', '']
+SIZES = [0, 1, 2, 3, 4, 9, 14, 26, 27, 40, 49, 90, 400, 444, 999, 1987, 3888, 99999, 100000, 100001, 2147483647, -1, -2, -2147483647]
+
+
+def some_number():
+    return draw.choice(SIZES + [draw.randrange(100), draw.randrange(5000)] * 6)
+
+
+def step(names):
+    changes = ['new', 'set', 'set', 'set', 'add', 'step', 'step', 'step', 'step']
+    kind = draw.choice(changes + ['arabic', 'roman', 'Roman', 'alph', 'Alph'] * 2 + ['here', 'label', 'old', 'ref'])
+    name = hexed(draw.choice(names))
+    if kind == 'new':
+        return ':'.join([kind, hexed(draw.choice(NEW)), name][:draw.choice([2, 3])])
+    if kind in ('add', 'step'):
+        return f'{kind}:{name}:{draw.choice([1, 1, 1, -1, some_number(), -2147483648])}'
+    if kind == 'set':
+        return f'{kind}:{name}:{draw.choice([some_number(), draw.randrange(28)])}'
+    if kind == 'old':
+        return ':'.join([kind] + [hexed(draw.choice(texts)) for texts in (KEYS, ['1', '2.3', ''], ['4', 'iv'])])
+    return f'{kind}:{hexed(draw.choice(KEYS)) if kind in ("label", "ref") else name}'
+
+
+def steps():
+    """Some new counters, steps, and then what each of these counters and some others are."""
+    made = draw.sample(NEW, 4)
+    names = made * 4 + COUNTERS + ['chapter', 'section'] * 3 + OTHERS
+    begun = [':'.join(['new', hexed(name), hexed(draw.choice(made[:place] * 3 + COUNTERS))][:draw.choice([2, 3, 3])]) for place, name in enumerate(made)]
+    return begun + [step(names) for _ in range(draw.choice([2, 5, 10, 30]))] + [f'arabic:{hexed(name)}' for name in made + draw.sample(COUNTERS, 4)]
+
+
+def printed():
+    """Each form of each size."""
+    for number in SIZES + list(range(1, 120)):
+        yield [f'set:{hexed("page")}:{number}'] + [f'{form}:{hexed("page")}' for form in ('arabic', 'roman', 'Roman', 'alph', 'Alph')]
+
+
 BY_HAND = ['', '\\newlabel{k}{{1}{2}}\r', '\\@setckpt{a}{\n}', '\\@setckpt{a}{\n}\r', '\\@setckpt{a}{\n} ', '\\@setckpt{a}{\n\\@setckpt{b}{\n}\n}', '{' * 3000, '\\newlabel' + '{' * 3000,
            '\\newlabel{' + '{' * 1000 + '}' * 1000 + '}{{1}{2}}', '\\newlabel{k}{{\\}}{1}}', '\\newlabel{k}{{\\\\}{1}}', '\\newlabel{k}{{1}{2}\\}']
 
@@ -76,3 +118,11 @@ if __name__ == '__main__':
         print('log', *words)
     print('checkpoint', hexed('a'))
     print('checkpoint', hexed('a/b'), 'page=17', 'chapter=-2147483647', 'table=2147483647')
+    print('counter')
+    for words in printed():
+        print('counter', *words)
+    for name in NEW:
+        key, chapter = hexed(name), hexed('chapter')
+        print('counter', f'the:{key}', f'new:{key}:{chapter}', f'set:{key}:7', f'checkpoint:{hexed("a")}', f'step:{chapter}:1', f'checkpoint:{hexed("b")}')
+    for _ in range(STEPS):
+        print('counter', *steps())

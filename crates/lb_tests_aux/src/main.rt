@@ -1,14 +1,17 @@
-//! Old aux files that are read, and lines that are written. Each line of standard input is a command, and what comes of it is shown on a line.
+//! Old aux files that are read, lines that are written, and counters. Each line of standard input is a command, and what comes of it is shown on a line.
 #![tactic(auto)]
 
+mod counters;
 mod events;
 mod files;
+mod labels;
 mod lines;
 mod shown;
 mod states;
 mod stop;
 mod tokens;
 mod words;
+mod worlds;
 
 use std::alloc::Global;
 use std::io::{BufRead, BufReader};
@@ -35,6 +38,7 @@ fn run(alloc: Global, words: &[&str], out: &mut String) -> Result<(), Stop> {
         Some((&"label", words)) => lines::show_label(alloc, words, out),
         Some((&"contents", words)) => lines::show_contents(alloc, words, out),
         Some((&"log", words)) => events::show(alloc, words, out),
+        Some((&"counter", words)) => counters::show(alloc, words, out),
         Some((&"checkpoint", words)) => states::show(alloc, words, out),
         _ => Err(Stop::Command),
     }

@@ -16,3 +16,9 @@ pub(crate) fn show_part(word: &str, bytes: &[u8], out: &mut String) -> Result<()
     out.push(' ')?;
     show_bytes(bytes, out)
 }
+
+/// What is shown of a step that tells nothing.
+pub(crate) fn show_done(out: &mut String) -> Result<(), Stop> {
+    out.push_str("ok")?;
+    Ok(())
+}

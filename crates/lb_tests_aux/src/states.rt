@@ -1,12 +1,12 @@
 //! Checkpoints of states.
 use crate::shown::show_bytes;
 use crate::stop::Stop;
-use crate::words::{name, number};
+use crate::words::{name, value};
+use crate::worlds::world;
 use lb_aux::checkpoint_text;
-use lb_base::{Moment, Name};
+use lb_base::Name;
 use lb_cells::{Direct, State};
-use lb_model::within::is_number;
-use lb_model::{Cells, FileMap, STEPS_AT_START, World};
+use lb_model::Cells;
 use lb_values::{Cell, Reach, Value};
 use std::alloc::Global;
 
@@ -21,8 +21,18 @@ pub(crate) fn show(alloc: Global, words: &[&str], out: &mut String) -> Result<()
     for change in changes {
         set_counter(alloc, &mut cells, change)?;
     }
+    show_checkpoint(alloc, &mut cells, chapter, out)
+}
+
+/// Shows the checkpoint of a chapter.
+pub(crate) fn show_checkpoint<C: Cells>(
+    alloc: Global,
+    cells: &mut C,
+    chapter: &str,
+    out: &mut String,
+) -> Result<(), Stop> {
     let chapter = name(alloc, chapter)?;
-    let text = checkpoint_text(alloc, &mut cells, &chapter)?;
+    let text = checkpoint_text(alloc, cells, &chapter)?;
     show_bytes(text.as_slice(), out)
 }
 
@@ -30,28 +40,8 @@ fn set_counter<C: Cells>(alloc: Global, cells: &mut C, change: &str) -> Result<(
     let Some((counter, word)) = change.split_once('=') else {
         return Err(Stop::Command);
     };
-    let number = number(word)?;
-    if !is_number(number) {
-        return Err(Stop::Command);
-    }
+    let number = value(word)?;
     let cell = Cell::Counter(Name::from_slice(alloc, counter.as_bytes())?);
     cells.set(&cell, Value::Number(number), Reach::Global)?;
     Ok(())
-}
-
-/// A world without files.
-fn world(alloc: Global) -> Result<World, Stop> {
-    let moment = Moment {
-        year: 1776,
-        month: 7,
-        day: 4,
-        minutes: 720,
-    };
-    Ok(World {
-        files: FileMap::new(alloc),
-        main: Name::from_slice(alloc, b"main")?,
-        prefix: Name::from_slice(alloc, b"")?,
-        steps: STEPS_AT_START,
-        moment,
-    })
 }

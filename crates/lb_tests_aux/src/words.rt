@@ -1,12 +1,26 @@
 //! The words of a command: numbers, and bytes as hexadecimal digits behind a dot, two to the byte.
-ghost use Rattle.std.specs.Prelude.{◌<◌, IfOk};
+ghost use Rattle.std.specs.Prelude.{◌≡◌, ◌<◌, IfOk, true};
+ghost use Rattle.lb_model.specs.Ranges.{is_number};
 
 use crate::stop::Stop;
 use lb_base::{Bytes, Name};
+use lb_model::within::is_number;
 use std::alloc::Global;
 
 pub(crate) fn number(word: &str) -> Result<i32, Stop> {
     word.parse::<i32>().map_err(|_| Stop::Command)
+}
+
+/// A number that a counter may have.
+pub(crate) fn value(word: &str) -> Result<i32, Stop>
+    ensures { IfOk result (λ n. is_number n ≡ true) }
+{
+    let number = number(word)?;
+    if is_number(number) {
+        Ok(number)
+    } else {
+        Err(Stop::Command)
+    }
 }
 
 pub(crate) fn byte(word: &str) -> Result<u8, Stop> {
