@@ -1,5 +1,5 @@
 //! The readings that are open.
-ghost use Rattle.std.specs.Prelude.{◌≡◌, ◌∷◌, ◌<◌, [], IfOk, OnOk, OnErr, MatchOption, nat_lt, false, true};
+ghost use Rattle.std.specs.Prelude.{◌≡◌, ◌∷◌, ◌<◌, [], IfOk, OnOk, OnErr, MatchOption, nat_lt, false, true, length};
 ghost use Rattle.lb_model_expansion.specs.Expansion.{counted, held_first, is_counted, is_held, is_held_as, wants_plain, wants_plain_as};
 ghost use Rattle.lb_model_expansion.specs.Steps.{ends_pass, is_body};
 ghost use Rattle.lb_expand.specs.Opens.{is_body_first, reading_of};
@@ -168,7 +168,8 @@ impl Readings {
 
     /// Whether none is open. Takes no memory.
     pub fn is_empty(&self) -> bool
-        ensures { result ≡ true → self.now ≡ [] }
+        ensures none { result ≡ true → self.now ≡ [] }
+        ensures some { result ≡ false → 0 < length self.now }
     {
         self.items.is_empty()
     }
