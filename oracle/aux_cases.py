@@ -99,6 +99,49 @@ def printed():
 BY_HAND = ['', '\\newlabel{k}{{1}{2}}\r', '\\@setckpt{a}{\n}', '\\@setckpt{a}{\n}\r', '\\@setckpt{a}{\n} ', '\\@setckpt{a}{\n\\@setckpt{b}{\n}\n}', '{' * 3000, '\\newlabel' + '{' * 3000,
            '\\newlabel{' + '{' * 1000 + '}' * 1000 + '}{{1}{2}}', '\\newlabel{k}{{\\}}{1}}', '\\newlabel{k}{{\\\\}{1}}', '\\newlabel{k}{{1}{2}\\}']
 
+# ---- The files of books that are worked out by hand
+
+def characters(text):
+    return [f'c:{ord(c)}' for c in text]
+
+
+def heading(number, title):
+    return '.' + ','.join([f'w:{hexed("numberline")}'] + characters('{' + number + '}' + title))
+
+
+def entry(kind, number, title, page):
+    return f'\\@writefile{{toc}}{{\\contentsline {{{kind}}}{{\\numberline {{{number}}}{title}}}{{{page}}}}}\n'
+
+
+def closed(file, **numbers):
+    at = {'page': 1} | numbers
+    return f'\\@setckpt{{{file}}}{{\n' + ''.join(f'\\setcounter{{{name}}}{{{at.get(name, 0)}}}\n' for name in COUNTERS) + '}\n'
+
+
+ONE = '\\relax \n' + entry('chapter', '1', 'First', 1) + '\\newlabel{c1}{{1}{1}}\n' + closed('one', page=2, chapter=1, footnote=1)
+TWO = '\\relax \n' + entry('chapter', '2', 'Second', 2) + entry('section', '2.1', 'Part', 2) + '\\newlabel{s1}{{2.1}{2}}\n' + closed('two', page=3, chapter=2, section=1)
+MORE = '\\relax \n' + entry('chapter', 'A', 'More', 3) + closed('more', page=4, chapter=1)
+
+
+def worked():
+    """A book of one page: its two aux files. A book of three chapters: what is written of each, its files, and the second one cut at every eighth
+    byte. A main aux file that names itself, with a label of its own."""
+    yield 'read', hexed('\\relax \n\\@input{a.aux}\n')
+    yield 'read', hexed('\\relax \n' + closed('a', page=2))
+    yield 'checkpoint', hexed('a'), 'page=2'
+    yield 'read', hexed('\\relax \n' + ''.join(f'\\@input{{{name}.aux}}\n' for name in ('one', 'two', 'more')))
+    for kind, number, title, page in (('chapter', '1', 'First', '1'), ('chapter', '2', 'Second', '2'), ('section', '2.1', 'Part', '2'), ('chapter', 'A', 'More', '3')):
+        yield 'contents', hexed('toc'), hexed(kind), heading(number, title), '.' + ','.join(characters(page))
+    yield 'label', hexed('c1'), hexed('1'), hexed('1')
+    yield 'label', hexed('s1'), hexed('2.1'), hexed('2')
+    for text in (ONE, TWO, MORE, ONE.replace('{page}{2}', '{page}{40}'), ONE.replace('{page}{2}', '{page}{2147483647}')):
+        yield 'read', hexed(text)
+    for cut in range(0, len(TWO), 8):
+        yield 'read', hexed(TWO[:cut])
+    yield 'read', hexed('\\newlabel{k}{{1}{1}}\n\\@input{main.aux}\n')
+    yield 'log', 'label', hexed('k')
+
+
 if __name__ == '__main__':
     for text in BY_HAND:
         print('read', hexed(text))
@@ -126,3 +169,5 @@ if __name__ == '__main__':
         print('counter', f'the:{key}', f'new:{key}:{chapter}', f'set:{key}:7', f'checkpoint:{hexed("a")}', f'step:{chapter}:1', f'checkpoint:{hexed("b")}')
     for _ in range(STEPS):
         print('counter', *steps())
+    for words in worked():
+        print(*words)

@@ -600,7 +600,7 @@ class Feeder:
         if self.texts > MOST_FILES:
             raise Fault('DepthLimit')
         self.texts += 1
-        self.log.append(b'File ' + name)
+        self.log.append(b'File ' + name + b'\n')
         self.list.append(Text(name, 1, self.cells.files[name]))
 
     def file_name(self):
