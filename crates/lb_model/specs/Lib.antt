@@ -14,6 +14,7 @@ pub mod Kinds
 pub mod Lines
 pub mod Meanings
 pub mod Places
+pub mod PresentFont
 pub mod Quantities
 pub mod Ranges
 pub mod Readings

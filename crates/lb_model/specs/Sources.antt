@@ -1,8 +1,9 @@
 -- Tokens that are taken without expansion: pending ones, and those of texts (TeXbook, chapter 8).
-use Rattle.std.specs.Prelude.{◌++◌, Bool, ℕ, zero, suc, List, [], ◌∷◌, Option, Some, None, if◌then◌else◌}
+use Rattle.std.specs.Prelude.{◌++◌, ◌==◌, Bool, false, ℕ, zero, suc, List, [], ◌∷◌, Option, Some, None, if◌then◌else◌}
 use Rattle.lb_base.specs.declared.fault.Kind.TheVariants.{Invalid, StepLimit}
 use Rattle.lb_base.specs.declared.token.Category.{Category}
 use Rattle.lb_base.specs.declared.token.Tok.{Tok}
+use Rattle.lb_base.specs.declared.token.Tok.TheVariants.{Param}
 use Rattle.lb_model.specs.declared.reading.Read.{Read}
 use Rattle.lb_model.specs.declared.reading.Read.TheVariants as read
 use Rattle.lb_model.specs.declared.reading.ReaderState.{ReaderState}
@@ -98,10 +99,21 @@ from_text x source t =
 abbrev pub at_text_end : FileText → List Item → Option Place → LineTaken → SourceTaken
 at_text_end x source place t = record { got = GotEnd; source = Text (text_left x.file t) ∷ source; place = place }
 
+-- a boundary behind pending tokens, which no text has: nothing is taken past it until it is taken away (tex.web, part 37, has `end_template` for
+-- the like)
+abbrev pub is_boundary : Tok → Bool
+is_boundary (Param number) = number == 0
+is_boundary tok = false
+
+abbrev pub from_pending : Tok → List Item → Option Place → SourceTaken
+from_pending tok source place =
+    if is_boundary tok then record { got = GotEnd; source = Pending tok ∷ source; place = place }
+    else record { got = GotTok tok; source = source; place = place }
+
 -- a pending token, or the next token of a text; at the end of a text what stands after it, where ends are passed
 abbrev pub source_token : Bool → (ℕ → Category) → Option Place → List Item → SourceTaken
 source_token passes cats place [] = record { got = GotEnd; source = []; place = place }
-source_token passes cats place (Pending tok ∷ source) = record { got = GotTok tok; source = source; place = place }
+source_token passes cats place (Pending tok ∷ source) = from_pending tok source place
 source_token passes cats place (Text x ∷ source) =
     let t = text_token cats x in
     or_later t.read (from_text x source t) (if passes then source_token passes cats place source else at_text_end x source place t)

@@ -9,7 +9,7 @@ use Rattle.lb_model_aux.specs.Grammar.{GroupsAreRead, IsGroup, LabelsAreRead}
 use Rattle.lb_model_aux.specs.Groups.{AreGroups, IsBalanced, behind_byte, ends_or, group_of, is_plain, one_less, to_close}
 use Rattle.lb_model_aux.specs.Groups.AreGroups.{more, none}
 use Rattle.lb_model_aux.specs.Groups.IsBalanced.{escaped, group, nothing, plain}
-use Rattle.lb_model_aux.specs.Written.{braced}
+use Rattle.lb_model_journal.specs.Written.{braced}
 use Rattle.lb_model_aux.proofs.GroupReading.{balanced-braced, group-read}
 use Rattle.lb_model_aux.proofs.LineReading.{pair-read, two-read}
 

@@ -5,7 +5,7 @@ use Rattle.std.specs.Option.{option_map}
 use Rattle.lb_model_aux.specs.Groups.{AreGroups, IsBalanced, are_groups, behind_byte, ends_or, group_of, is_plain, to_close, turned}
 use Rattle.lb_model_aux.specs.Groups.AreGroups.{more, none}
 use Rattle.lb_model_aux.specs.Groups.IsBalanced.{escaped, group, nothing, plain}
-use Rattle.lb_model_aux.specs.Written.{braced}
+use Rattle.lb_model_journal.specs.Written.{braced}
 
 -- ---- A front before what was cut off
 

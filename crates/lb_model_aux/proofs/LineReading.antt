@@ -11,7 +11,7 @@ use Rattle.lb_model_paper.specs.Texts.{line}
 use Rattle.lb_model_aux.specs.Forms.{alone, pair_before, pair_of, two_groups, without_ending}
 use Rattle.lb_model_aux.specs.Groups.{AreGroups, IsBalanced, group_of}
 use Rattle.lb_model_aux.specs.Reading.{lines_of}
-use Rattle.lb_model_aux.specs.Written.{braced}
+use Rattle.lb_model_journal.specs.Written.{braced}
 use Rattle.lb_model_aux.proofs.GroupReading.{both, group-read, groups-read, not-true}
 
 -- ---- Groups

@@ -16,7 +16,7 @@ use Rattle.lb_model_aux.specs.Groups.AreGroups.{none}
 use Rattle.lb_model_aux.specs.Groups.IsBalanced.{escaped, group, nothing, plain}
 use Rattle.lb_model_aux.specs.ReadBack.{IsCounterReadBack, CheckpointsAreReadBack, EntriesAreReadBack, FirstLinesAreReadBack, InputsAreReadBack, LabelsAreReadBack}
 use Rattle.lb_model_aux.specs.Reading.{counters_to_close, lines_of, read_of, said}
-use Rattle.lb_model_aux.specs.Written.{braced, checkpoint_lines, contents_entry, counter_line, written}
+use Rattle.lb_model_journal.specs.Written.{braced, checkpoint_lines, contents_entry, counter_line, written}
 use Rattle.lb_model_aux.proofs.Closings.{checkpoint_said, close-here, close-later, said-checkpoint, said-line, with_counter}
 use Rattle.lb_model_aux.proofs.GroupReading.{balanced-braced, both, group-read}
 use Rattle.lb_model_aux.proofs.LineReading.{first-line, last-group, not-ending, pair-read, two-read, without-none}

@@ -4,7 +4,7 @@ use Rattle.lb_values.specs.declared.value.LabelPair.{LabelPair}
 use Rattle.lb_model_aux.specs.declared.line.Line.TheVariants.{Label}
 use Rattle.lb_model_aux.specs.Forms.{label_of}
 use Rattle.lb_model_aux.specs.Groups.{AreGroups, IsBalanced, group_of}
-use Rattle.lb_model_aux.specs.Written.{braced}
+use Rattle.lb_model_journal.specs.Written.{braced}
 
 -- a text begins with a group
 pub record IsGroup (text inner rest : List ℕ) : Type 0 where

@@ -4,11 +4,11 @@ use Rattle.std.specs.List.{AllByRecursion, list_all}
 use Rattle.lb_values.specs.declared.value.LabelPair.{LabelPair}
 use Rattle.lb_model.specs.Ranges.{is_number}
 use Rattle.lb_model_paper.specs.Texts.{input_line, relax_line}
-use Rattle.lb_model_aux.specs.declared.entry.Entry3.{Entry3}
+use Rattle.lb_model_journal.specs.declared.entry.Entry3.{Entry3}
 use Rattle.lb_model_aux.specs.declared.line.Line.TheVariants.{Label, Input, Entry, Checkpoint}
 use Rattle.lb_model_aux.specs.Groups.{IsBalanced}
 use Rattle.lb_model_aux.specs.Reading.{read_of}
-use Rattle.lb_model_aux.specs.Written.{checkpoint_lines, contents_entry, contents_line, label_line, written}
+use Rattle.lb_model_journal.specs.Written.{checkpoint_lines, contents_entry, contents_line, label_line, written}
 
 -- a text that can be read back: each brace has its other one, and there is no line feed
 pub record CanBeReadBack (text : List ℕ) : Type 0 where

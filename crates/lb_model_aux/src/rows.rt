@@ -7,7 +7,7 @@ ghost use Rattle.lb_model_aux.specs.declared.line.Line.TheVariants.{Checkpoint, 
 ghost use Rattle.lb_model_aux.specs.Forms.{number_of};
 ghost use Rattle.lb_model_aux.specs.Reading.{label_in, read_of, repeated_after};
 ghost use Rattle.lb_model_aux.specs.Worked.{label, pair};
-ghost use Rattle.lb_model_aux.specs.Written.{written};
+ghost use Rattle.lb_model_journal.specs.Written.{written};
 
 /// Numbers of counters: the largest and the least, and one more; digits alone, behind one minus.
 pub fn numbers()

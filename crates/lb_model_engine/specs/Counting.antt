@@ -34,15 +34,15 @@ use Rattle.lb_model_expansion.specs.Steps as steps
 use Rattle.lb_model_counters.specs.Counters.{new_counter, printer, printer_name, set_counter, step_counter}
 use Rattle.lb_model_counters.specs.Effects.{Effect, assigned_by, looked_by}
 use Rattle.lb_model_counters.specs.Labels.{label_now, label_stored}
-use Rattle.lb_model_aux.specs.declared.event.Event.TheVariants as event
-use Rattle.lb_model_aux.specs.LogLines.{log_line}
-use Rattle.lb_model_aux.specs.Written.{written}
+use Rattle.lb_model_journal.specs.declared.event.Event.TheVariants as event
+use Rattle.lb_model_journal.specs.LogLines.{log_line}
+use Rattle.lb_model_journal.specs.Written.{written}
 use Rattle.lb_model_engine.specs.Definitions.{macro_value}
-use Rattle.lb_model_engine.specs.Items.{in_horizontal}
-use Rattle.lb_model_engine.specs.Pages.{added, page_counter}
+use Rattle.lb_model_nest.specs.Items.{in_horizontal}
+use Rattle.lb_model_nest.specs.Pages.{added, page_counter}
 use Rattle.lb_model_engine.specs.Reads.{argument, asking, bracket, characters, number, number_in, reading, word_to}
 use Rattle.lb_model_engine.specs.Texts.{expanded_text, text_put}
-use Rattle.lb_model_engine.specs.Wholes.{Executed, Whole, and_then, appended, behind, change, change_or, on, put, stop, with_feed}
+use Rattle.lb_model_nest.specs.Wholes.{Executed, Whole, and_then, appended, behind, change, change_or, on, put, stop, with_feed}
 
 -- ---- Effects on counters and labels
 

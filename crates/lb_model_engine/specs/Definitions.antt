@@ -1,14 +1,11 @@
 -- Definitions: macros, copies of meanings, and names of characters and registers (TeXbook, chapters 20 and 24; tex.web, part 49, sections 1208 to
--- 1225; source2e, files ltdefns and ltplain).
-use Rattle.std.specs.Prelude.{◌+◌, ◌-◌, ◌++◌, ◌&&◌, Bool, true, false, not, ℕ, zero, suc, ℤ, pos, negsuc, nat_le, nat_lt, nat_eq, List, [], ◌∷◌, length, codes, take, drop, Option, Some, None, is_some, if◌then◌else◌}
-use Rattle.std.specs.Cmp.Lexicographic.{pointwise}
-use Rattle.lb_base.specs.declared.fault.Kind.TheVariants.{AlreadyDefined, BadCode, DepthLimit, Overflow, Runaway, TokenMisplaced, Undefined}
+-- 1225).
+use Rattle.std.specs.Prelude.{◌+◌, ◌-◌, ◌++◌, ◌&&◌, Bool, true, false, ℕ, suc, nat_le, nat_lt, List, [], ◌∷◌, length, Option, Some, None, if◌then◌else◌}
+use Rattle.lb_base.specs.declared.fault.Kind.TheVariants.{DepthLimit, Runaway, TokenMisplaced}
 use Rattle.lb_base.specs.declared.token.Category.TheVariants as category
 use Rattle.lb_base.specs.declared.token.Tok.{Tok}
 use Rattle.lb_base.specs.declared.token.Tok.TheVariants as token
-use Rattle.lb_rows.specs.declared.command.Command.TheVariants as command
 use Rattle.lb_values.specs.declared.cell.Cell.{Cell}
-use Rattle.lb_values.specs.declared.cell.Cell.TheVariants as cell
 use Rattle.lb_values.specs.declared.cell.RegisterKind.{RegisterKind}
 use Rattle.lb_values.specs.declared.cell.RegisterKind.TheVariants as kind
 use Rattle.lb_values.specs.declared.meaning.MacroDef.{MacroDef}
@@ -16,7 +13,6 @@ use Rattle.lb_values.specs.declared.meaning.Meaning.{Meaning}
 use Rattle.lb_values.specs.declared.meaning.Meaning.TheVariants as meaning
 use Rattle.lb_values.specs.declared.meaning.Register.TheVariants as register
 use Rattle.lb_values.specs.declared.reach.Reach.{Reach}
-use Rattle.lb_values.specs.declared.reach.Reach.TheVariants.{Local, Global}
 use Rattle.lb_values.specs.declared.value.Value.{Value}
 use Rattle.lb_values.specs.declared.value.Value.TheVariants as value
 use Rattle.lb_model_grammar.specs.declared.given.Given.{Given}
@@ -26,13 +22,10 @@ use Rattle.lb_model_grammar.specs.Arguments.{closes, longer, opens}
 use Rattle.lb_model_grammar.specs.Scans.{Meant, is_other, is_space}
 use Rattle.lb_model_grammar.specs.Scans.Meant.{Open, Ended, Wrong}
 use Rattle.lb_model.specs.Configs.{looks_of_meaning}
-use Rattle.lb_model.specs.Kinds.{meaning_of, number_of}
 use Rattle.lb_model.specs.Meanings.{token_meaning}
 use Rattle.lb_model.specs.Ranges.{parameters_among}
-use Rattle.lb_model_engine.specs.declared.definition.NewKind.{NewKind}
-use Rattle.lb_model_engine.specs.declared.definition.NewKind.TheVariants.{New, Renew, Provide}
-use Rattle.lb_model_engine.specs.Reads.{argument, bracket, characters, code, control, control_to, equals, expanded_rest, group_rest, number_in, reading, reading_on, star, taking}
-use Rattle.lb_model_engine.specs.Wholes.{Executed, Whole, and_then, change, looking, on, put, stop, tells}
+use Rattle.lb_model_engine.specs.Reads.{code, control, equals, expanded_rest, group_rest, reading, reading_on, taking}
+use Rattle.lb_model_nest.specs.Wholes.{Executed, Whole, and_then, change, looking, put, stop}
 
 -- ---- Parameter texts
 
@@ -172,130 +165,3 @@ register_meaning kind.Boxed n = meaning.Number n
 
 unfoldable pub shorthand_row : (ℕ → Meaning) → Reach → Whole → Executed
 shorthand_row meant reach w = control (λ name v. equals (λ u. code (λ n x. change reach name (value.Meaning (meant n)) x) u) v) w
-
--- ---- `\newcount`, `\newdimen`, `\newskip`, `\newlength`, `\newtoks`, `\newsavebox`
-
-abbrev pub register_named : RegisterKind → Cell → ℕ → Whole → Executed
-register_named k name n w =
-    if nat_lt n 256
-    then and_then (change Global (cell.Fresh k) (value.Number (pos (suc n))) w) (change Local name (value.Meaning (register_meaning k n)))
-    else stop Overflow w
-
-abbrev pub fresh_named : RegisterKind → Cell → ℤ → Whole → Executed
-fresh_named k name (pos n) w = register_named k name n w
-fresh_named k name (negsuc n) w = stop Overflow w
-
-unfoldable pub new_register : RegisterKind → Whole → Executed
-new_register k w = control (λ name v. looking (cell.Fresh k ∷ []) (fresh_named k name (number_of (tells v (cell.Fresh k))) v)) w
-
--- ---- `\newif`
-
-abbrev pub word_of : Cell → List ℕ
-word_of (cell.Word name) = name
-word_of c = []
-
--- the text behind `if` in a name, None where nothing is
-abbrev pub behind_if : List ℕ → Option (List ℕ)
-behind_if name = if pointwise nat_eq (take 2 name) (codes "if") && nat_lt 2 (length name) then Some (drop 2 name) else None
-
--- a macro that lets the conditional be another one
-abbrev pub switch : List ℕ → List ℕ → Value
-switch name row = plain_macro false [] (token.Word (codes "let") ∷ token.Word name ∷ token.Word row ∷ [])
-
-abbrev pub conditional_named : List ℕ → List ℕ → Whole → Executed
-conditional_named name switched w =
-    and_then (change Local (cell.Word name) (value.Meaning (meaning.Row command.IfFalse)) w)
-    (λ v. and_then (change Local (cell.Word (switched ++ codes "true")) (switch name (codes "iftrue")) v)
-    (change Local (cell.Word (switched ++ codes "false")) (switch name (codes "iffalse"))))
-
-abbrev pub new_conditional : List ℕ → Option (List ℕ) → Whole → Executed
-new_conditional name None w = stop TokenMisplaced w
-new_conditional name (Some switched) w = conditional_named name switched w
-
-unfoldable pub newif : Whole → Executed
-newif w = control (λ name v. new_conditional (word_of name) (behind_if (word_of name)) v) w
-
--- ---- `\newcommand`, `\renewcommand`, `\providecommand`
-
--- n parameters from one on
-abbrev pub parameters_from : ℕ → ℕ → List Tok
-parameters_from first zero = []
-parameters_from first (suc n) = token.Param first ∷ parameters_from (suc first) n
-
--- n parameters, of which one with a default is the first
-abbrev pub parameters_behind : Option (List Tok) → ℕ → List Tok
-parameters_behind None n = parameters_from 1 n
-parameters_behind (Some default) n = parameters_from 2 (n - 1)
-
-abbrev pub command_macro : Bool → Option (List Tok) → ℕ → List Tok → MacroDef
-command_macro long default n body = record { pattern = record { long = long; first = default; tokens = parameters_behind default n }; body = body }
-
--- a name in an argument
-abbrev pub named_by : List Tok → (Cell → Whole → Executed) → Whole → Executed
-named_by (tok ∷ []) row w = control_to tok row w
-named_by toks row w = stop TokenMisplaced w
-
-abbrev pub name_argument : (Cell → Whole → Executed) → Whole → Executed
-name_argument row w = argument (λ toks v. named_by toks row v) w
-
--- the number of parameters, from 0 to 9, and the default of the first, where there is one
-abbrev pub default_to : ℕ → Option (List Tok) → (ℕ → Option (List Tok) → Whole → Executed) → Whole → Executed
-default_to zero (Some default) row w = stop BadCode w
-default_to n default row w = row n default w
-
-abbrev pub count_to : ℤ → (ℕ → Option (List Tok) → Whole → Executed) → Whole → Executed
-count_to (pos n) row w = if nat_lt n 10 then reading bracket (λ default v. default_to n default row v) w else stop BadCode w
-count_to (negsuc n) row w = stop BadCode w
-
-abbrev pub count_behind : Option (List Tok) → (ℕ → Option (List Tok) → Whole → Executed) → Whole → Executed
-count_behind None row w = row 0 None w
-count_behind (Some toks) row w = number_in toks (λ n v. count_to n row v) w
-
-abbrev pub parameters : (ℕ → Option (List Tok) → Whole → Executed) → Whole → Executed
-parameters row w = reading bracket (λ toks v. count_behind toks row v) w
-
--- a name that has a meaning, or none, is defined, or is a fault, or stays
-abbrev pub newly : NewKind → Bool → (Whole → Executed) → Whole → Executed
-newly New true define w = stop AlreadyDefined w
-newly New false define w = define w
-newly Renew true define w = define w
-newly Renew false define w = stop Undefined w
-newly Provide true define w = on w
-newly Provide false define w = define w
-
-abbrev pub newly_named : NewKind → Cell → (Whole → Executed) → Whole → Executed
-newly_named kind name define w = looking (name ∷ []) (newly kind (is_some (meaning_of (tells w name))) define w)
-
--- a body with n parameters in an argument
-abbrev pub body_argument : ℕ → (List Tok → Whole → Executed) → Whole → Executed
-body_argument n row w = argument (λ toks v. body_to (body_of n toks) row v) w
-
-abbrev pub command_defined : NewKind → Bool → Cell → ℕ → Option (List Tok) → List Tok → Whole → Executed
-command_defined kind long name n default body w = newly_named kind name (change Local name (macro_value (command_macro long default n body))) w
-
--- with a star the macro is not a long one
-unfoldable pub newcommand : NewKind → Whole → Executed
-newcommand kind w =
-    reading star
-    (λ starred v. name_argument
-    (λ name u. parameters (λ n default x. body_argument n (λ body y. command_defined kind (not starred) name n default body y) x) u) v) w
-
--- ---- `\newenvironment`, `\renewenvironment`
-
-abbrev pub end_name : List ℕ → List ℕ
-end_name name = codes "end" ++ name
-
--- the macro of its beginning, which takes the arguments, and the macro of its end
-abbrev pub environment_set : List ℕ → MacroDef → List Tok → Whole → Executed
-environment_set name begins ends w =
-    and_then (change Local (cell.Word name) (macro_value begins) w) (change Local (cell.Word (end_name name)) (plain_macro true [] ends))
-
-abbrev pub environment_defined : NewKind → List ℕ → MacroDef → List Tok → Whole → Executed
-environment_defined kind name begins ends w = newly_named kind (cell.Word name) (environment_set name begins ends) w
-
-unfoldable pub newenvironment : NewKind → Whole → Executed
-newenvironment kind w =
-    characters
-    (λ name v. parameters
-    (λ n default u. body_argument n
-    (λ begins x. body_argument 0 (λ ends y. environment_defined kind name (command_macro true default n begins) ends y) x) u) v) w

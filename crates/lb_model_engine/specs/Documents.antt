@@ -4,26 +4,23 @@ use Rattle.std.specs.Cmp.Lexicographic.{pointwise}
 use Rattle.std.specs.Option.{option_map_or}
 use Rattle.lb_base.specs.declared.fault.Kind.TheVariants.{ClassRefused, DepthLimit, NotPreamble}
 use Rattle.lb_base.specs.declared.token.Tok.{Tok}
-use Rattle.lb_base.specs.declared.token.Tok.TheVariants as token
 use Rattle.lb_rows.specs.declared.parameter.Parameter.TheVariants.{HSize, TextWidth}
 use Rattle.lb_values.specs.declared.cell.Cell.{Cell}
 use Rattle.lb_values.specs.declared.cell.Cell.TheVariants as cell
 use Rattle.lb_values.specs.declared.reach.Reach.TheVariants.{Global, Local}
 use Rattle.lb_values.specs.declared.value.Value.TheVariants as value
 use Rattle.lb_model.specs.declared.append.Append.TheVariants as append
-use Rattle.lb_model.specs.declared.group.GroupKind.TheVariants.{Semi}
 use Rattle.lb_model.specs.Kinds.{dimension_of, name_of, number_of, text_of}
 use Rattle.lb_model.specs.Sources.{text_of as text_from_start, texts}
 use Rattle.lb_model.specs.Sources.Item.{Text}
-use Rattle.lb_model_aux.specs.declared.event.Event.TheVariants as event
+use Rattle.lb_model_journal.specs.declared.event.Event.TheVariants as event
 use Rattle.lb_model_aux.specs.declared.line.Line.{Line}
 use Rattle.lb_model_aux.specs.declared.line.Line.TheVariants as line
 use Rattle.lb_model_aux.specs.Reading.{read_of, repeated_after}
-use Rattle.lb_model_aux.specs.LogLines.{log_line}
+use Rattle.lb_model_journal.specs.LogLines.{log_line}
 use Rattle.lb_model_engine.specs.Counting.{characters_in}
-use Rattle.lb_model_engine.specs.Groups.{group_opened}
 use Rattle.lb_model_engine.specs.Reads.{bracket, characters, reading}
-use Rattle.lb_model_engine.specs.Wholes.{Executed, Whole, and_then, appended, change, looking, on, put, stop, tells, with_feed}
+use Rattle.lb_model_nest.specs.Wholes.{Executed, Whole, and_then, appended, change, looking, on, stop, tells, with_feed}
 
 -- ---- Before the text begins
 
@@ -83,7 +80,7 @@ toc_read w = looking (cell.Job ∷ cell.File (toc_file w) ∷ []) (file_begun (t
 unfoldable pub toc_row : Whole → Executed
 toc_row w = and_then (change Global cell.Toc (value.Number (pos 1)) w) toc_read
 
--- ---- `\begin`
+-- ---- `\begin{document}`
 
 -- what the aux file of the last run says, and in its place what an aux file says that it names: there no other file counts
 abbrev pub file_lines : Whole → List ℕ → List Line
@@ -108,7 +105,7 @@ file_named (line.Input name) = cell.File name ∷ []
 file_named l = []
 
 abbrev pub aux_cells : Whole → List Cell
-aux_cells w = cell.Job ∷ cell.File (aux_file w) ∷ flat_map file_named (file_lines w (aux_file w))
+aux_cells w = cell.File (aux_file w) ∷ flat_map file_named (file_lines w (aux_file w))
 
 -- labels and checkpoints are kept, one after another
 abbrev pub line_kept : Line → Whole → Executed
@@ -137,14 +134,4 @@ width_set w =
 
 -- the text begins: it opens no group
 unfoldable pub document_begun : Whole → Executed
-document_begun w = and_then (and_then (change Global cell.Body (value.Number (pos 1)) w) width_set) aux_read
-
--- an environment: a group in which its name is known, and its macro comes next
-abbrev pub environment_named : List ℕ → Whole → Executed
-environment_named name w = and_then (change Local cell.Env (value.Name name) w) (put (token.Word name ∷ []))
-
-abbrev pub begun : List ℕ → Whole → Executed
-begun name w = if pointwise nat_eq name (codes "document") then document_begun w else and_then (group_opened Semi w) (environment_named name)
-
-unfoldable pub begin_row : Whole → Executed
-begin_row w = characters begun w
+document_begun w = looking (cell.Job ∷ []) (and_then (and_then (change Global cell.Body (value.Number (pos 1)) w) width_set) aux_read)

@@ -18,13 +18,13 @@ use Rattle.lb_model_grammar.specs.Scans.Meant.{Open, Ended}
 use Rattle.lb_model.specs.FontTable.{row}
 use Rattle.lb_model.specs.Kinds.{number_of, page_style_of}
 use Rattle.lb_model_counters.specs.Counters.{printer_name, step_counter}
-use Rattle.lb_model_engine.specs.declared.display.HeadLevel.{HeadLevel}
-use Rattle.lb_model_engine.specs.declared.display.HeadLevel.TheVariants.{Chapter, Section, SubSection, SubSubSection, Paragraph, SubParagraph}
+use Rattle.lb_model_nest.specs.declared.display.HeadLevel.{HeadLevel}
+use Rattle.lb_model_nest.specs.declared.display.HeadLevel.TheVariants.{Chapter, Section, SubSection, SubSubSection, Paragraph, SubParagraph}
 use Rattle.lb_model_engine.specs.Counting.{effected, label_set}
 use Rattle.lb_model_engine.specs.Lists.{toks}
 use Rattle.lb_model_engine.specs.Reads.{argument, bracket, characters, number, reading, some_meant, star}
 use Rattle.lb_model_engine.specs.Texts.{expanded_text}
-use Rattle.lb_model_engine.specs.Wholes.{Executed, Whole, and_then, looking, on, put, stop, tells}
+use Rattle.lb_model_nest.specs.Wholes.{Executed, Whole, and_then, looking, on, put, stop, tells}
 
 -- ---- `\@head`
 

@@ -9,20 +9,20 @@ use Rattle.lb_base.specs.declared.token.Tok.TheVariants as token
 use Rattle.lb_rows.specs.declared.parameter.Parameter.{Parameter}
 use Rattle.lb_rows.specs.declared.parameter.Parameter.TheVariants.{LeftSkip, ParFillSkip, ParIndent, RightSkip}
 use Rattle.lb_values.specs.declared.cell.Cell.TheVariants as cell
-use Rattle.lb_values.specs.declared.reach.Reach.TheVariants.{Local}
+use Rattle.lb_values.specs.declared.reach.Reach.TheVariants.{Global, Local}
 use Rattle.lb_values.specs.declared.value.Value.TheVariants as value
 use Rattle.lb_model.specs.Assignments.{glue_value}
 use Rattle.lb_model.specs.FontTable.{row}
 use Rattle.lb_model.specs.Kinds.{glue_of, no_glue}
-use Rattle.lb_model_counters.specs.Counters.{printer_name, set_counter, step_counter}
-use Rattle.lb_model_engine.specs.declared.display.Display.{Display}
-use Rattle.lb_model_engine.specs.declared.display.Display.TheVariants.{Itemize, Enumerate, Description, Quote, Quotation, Center, FlushLeft, FlushRight}
-use Rattle.lb_model_engine.specs.Counting.{effected, effected_alone}
-use Rattle.lb_model_engine.specs.Pages.{added}
-use Rattle.lb_model_engine.specs.Paragraphs.{begun_in_vertical, paragraph_ended}
+use Rattle.lb_model_counters.specs.Counters.{printer_name, step_counter}
+use Rattle.lb_model_nest.specs.declared.display.Display.{Display}
+use Rattle.lb_model_nest.specs.declared.display.Display.TheVariants.{Itemize, Enumerate, Description, Quote, Quotation, Center, FlushLeft, FlushRight}
+use Rattle.lb_model_engine.specs.Counting.{effected}
+use Rattle.lb_model_nest.specs.Pages.{added}
+use Rattle.lb_model_nest.specs.Paragraphs.{begun_in_vertical, paragraph_ended}
 use Rattle.lb_model_engine.specs.Reads.{bracket, number, reading}
 use Rattle.lb_model_engine.specs.Texts.{tokens_of_text}
-use Rattle.lb_model_engine.specs.Wholes.{Executed, Whole, and_then, change, change_or, is_restricted, looking, on, put, stop, tells}
+use Rattle.lb_model_nest.specs.Wholes.{Executed, Whole, and_then, change, change_or, is_restricted, looking, on, put, stop, tells}
 
 -- tokens of a text that is known
 abbrev pub toks : List ℕ → List Tok
@@ -96,8 +96,9 @@ left_margin indent w = and_then (margin_added LeftSkip (margin_at (length w.list
 abbrev pub both_margins : ℤ → Whole → Executed
 both_margins indent w = and_then (left_margin indent w) (margin_added RightSkip (margin_at (length w.lists)))
 
+-- each state has the counters of numbered lists
 abbrev pub numbered_margin : Whole → Executed
-numbered_margin w = and_then (left_margin (pos 0) w) (effected_alone (set_counter (item_counter w.lists) (pos 0)))
+numbered_margin w = and_then (left_margin (pos 0) w) (change Global (cell.Counter (item_counter w.lists)) (value.Number (pos 0)))
 
 -- lines at the right
 abbrev pub fil_glue : Glue
@@ -141,12 +142,15 @@ list_row w = if is_restricted w.feed.mode then stop WrongMode w else number (λ 
 
 -- ---- `\@endlist`
 
+abbrev pub list_closed : List Display → Whole → Executed
+list_closed lists w = and_then (paragraph_ended w) (λ v. skip_added (record v { lists = lists }))
+
 abbrev pub list_closed_in : List Display → Whole → Executed
 list_closed_in [] w = stop ItemOutside w
-list_closed_in (kind ∷ lists) w = skip_added (record w { lists = lists })
+list_closed_in (kind ∷ lists) w = list_closed lists w
 
 unfoldable pub endlist_row : Whole → Executed
-endlist_row w = if is_restricted w.feed.mode then stop WrongMode w else and_then (paragraph_ended w) (λ v. list_closed_in v.lists v)
+endlist_row w = if is_restricted w.feed.mode then stop WrongMode w else list_closed_in w.lists w
 
 -- ---- `\item`
 
@@ -187,12 +191,12 @@ abbrev pub item_paragraph : Whole → Executed
 item_paragraph w = if is_restricted w.feed.mode then on w else and_then (paragraph_ended w) (begun_in_vertical false)
 
 abbrev pub item_labelled : Display → Option (List Tok) → Whole → Executed
-item_labelled kind None w = label_to kind (λ label v. and_then (item_paragraph v) (item_put kind label)) w
-item_labelled kind (Some label) w = and_then (item_paragraph w) (item_put kind label)
+item_labelled kind None w = label_to kind (item_put kind) w
+item_labelled kind (Some label) w = item_put kind label w
 
 abbrev pub item_in : List Display → Option (List Tok) → Whole → Executed
 item_in [] label w = stop ItemOutside w
-item_in (kind ∷ lists) label w = item_labelled kind label w
+item_in (kind ∷ lists) label w = and_then (item_paragraph w) (item_labelled kind label)
 
 unfoldable pub item_row : Whole → Executed
 item_row w = reading bracket (λ label v. item_in v.lists label v) w

@@ -18,16 +18,16 @@ use Rattle.lb_model.specs.Tokens.{cut_lines}
 use Rattle.lb_values.specs.declared.value.Value.{Value}
 use Rattle.lb_model_counters.specs.Counters.{set_counter}
 use Rattle.lb_model_counters.specs.Effects.{assigned_by, looked_by}
-use Rattle.lb_model_aux.specs.declared.event.Event.TheVariants as event
-use Rattle.lb_model_aux.specs.LogLines.{log_line}
-use Rattle.lb_model_aux.specs.Written.{checkpoint_in, looks_of_checkpoint}
+use Rattle.lb_model_journal.specs.declared.event.Event.TheVariants as event
+use Rattle.lb_model_journal.specs.LogLines.{log_line}
+use Rattle.lb_model_aux.specs.Checkpoints.{checkpoint_in, looks_of_checkpoint}
 use Rattle.lb_model_engine.specs.declared.piece.Piece.{Piece}
 use Rattle.lb_model_engine.specs.declared.piece.Piece.TheVariants.{Kernel, Segment, Chapter, Skip}
-use Rattle.lb_model_engine.specs.declared.turn.Went.{Went}
-use Rattle.lb_model_engine.specs.declared.turn.Went.TheVariants as went
+use Rattle.lb_model_nest.specs.declared.turn.Went.{Went}
+use Rattle.lb_model_nest.specs.declared.turn.Went.TheVariants as went
 use Rattle.lb_model_engine.specs.Kernel.{kernel_lines}
 use Rattle.lb_model_engine.specs.Turns.{begun, open_at, text_set}
-use Rattle.lb_model_engine.specs.Wholes.{Executed, Turn, Whole, appended, executed, looking}
+use Rattle.lb_model_nest.specs.Wholes.{Executed, Turn, Whole, appended, executed, looking}
 
 -- ---- Texts
 

@@ -15,7 +15,7 @@ use Rattle.lb_model_engine.specs.Boxes.{box_size, setbox, with_depth, with_heigh
 use Rattle.lb_model_engine.specs.Definitions.{def_row, futurelet_row, let_row, register_meaning, shorthand_row}
 use Rattle.lb_model_engine.specs.Reads.{past_spaces}
 use Rattle.lb_model_engine.specs.Registers.{arithmetic_row, picked_row, variable_row}
-use Rattle.lb_model_engine.specs.Wholes.{Executed, Whole, stop}
+use Rattle.lb_model_nest.specs.Wholes.{Executed, Whole, stop}
 
 -- ---- Assignments
 

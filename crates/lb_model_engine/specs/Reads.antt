@@ -32,7 +32,7 @@ use Rattle.lb_model_expansion.specs.declared.expansion.Went.{Went}
 use Rattle.lb_model_expansion.specs.declared.expansion.Went.TheVariants.{On, Gave, Answered, Over, Stopped, StoppedAt}
 use Rattle.lb_model_expansion.specs.Expansion.{body_asked, number_found, picks, ran, scan_asked, word_asked}
 use Rattle.lb_model_expansion.specs.Steps.{Performed}
-use Rattle.lb_model_engine.specs.Wholes.{Executed, Whole, and_then, behind, looking, put, stop, stop_at, with_feed}
+use Rattle.lb_model_nest.specs.Wholes.{Executed, Whole, and_then, behind, looking, put, stop, stop_at, with_feed}
 
 -- ---- Tokens that are not expanded
 

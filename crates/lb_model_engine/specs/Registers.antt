@@ -23,7 +23,7 @@ use Rattle.lb_model.specs.declared.arith.Arith.TheVariants.{Advance}
 use Rattle.lb_model.specs.Assignments.{arithmetic_at, arithmetic_kind, registered, takes_dimension, takes_glue, takes_number}
 use Rattle.lb_model.specs.Kinds.{tokens_of}
 use Rattle.lb_model_engine.specs.Reads.{code, dimension, equals, glue, group_rest, keyword, next, number, past_spaces}
-use Rattle.lb_model_engine.specs.Wholes.{Executed, Whole, change_or, looking, stop, tells}
+use Rattle.lb_model_nest.specs.Wholes.{Executed, Whole, change_or, looking, stop, tells}
 
 -- ---- Values
 

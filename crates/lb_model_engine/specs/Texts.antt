@@ -16,10 +16,10 @@ use Rattle.lb_model.specs.declared.reading.ReaderState.TheVariants.{NewLine}
 use Rattle.lb_model.specs.Kinds.{code_of}
 use Rattle.lb_model.specs.StartState.{start_category}
 use Rattle.lb_model.specs.Tokens.{next_token}
-use Rattle.lb_model_aux.specs.declared.event.Event.TheVariants as event
-use Rattle.lb_model_aux.specs.LogLines.{log_line}
+use Rattle.lb_model_journal.specs.declared.event.Event.TheVariants as event
+use Rattle.lb_model_journal.specs.LogLines.{log_line}
 use Rattle.lb_model_engine.specs.Reads.{argument, next, put_closed}
-use Rattle.lb_model_engine.specs.Wholes.{Executed, Whole, and_then, appended, looking, on, put, stop, tells}
+use Rattle.lb_model_nest.specs.Wholes.{Executed, Whole, and_then, appended, looking, on, put, stop, tells}
 
 -- ---- Expanded texts
 

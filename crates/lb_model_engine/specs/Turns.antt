@@ -1,9 +1,9 @@
 -- The main control: what is done with a token that is not expanded, and a text from its beginning to its end (TeXbook, chapters 24 and 25; tex.web,
 -- part 46).
-use Rattle.std.specs.Prelude.{Bool, true, false, ℕ, zero, suc, pos, List, [], ◌∷◌, Option, Some, None, is_some, if◌then◌else◌}
+use Rattle.std.specs.Prelude.{◌+◌, Bool, true, false, ℕ, zero, suc, pos, List, [], ◌∷◌, Option, Some, None, if◌then◌else◌}
 use Rattle.lb_base.specs.declared.fault.Fault.{Fault}
 use Rattle.lb_base.specs.declared.fault.Kind.{Kind}
-use Rattle.lb_base.specs.declared.fault.Kind.TheVariants.{AlignRefused, GroupOpen, IfOpen, MathRefused, NotYet, StepLimit, TokenMisplaced}
+use Rattle.lb_base.specs.declared.fault.Kind.TheVariants.{AlignRefused, GroupOpen, IfOpen, MathRefused, StepLimit, TokenMisplaced}
 use Rattle.lb_base.specs.declared.token.Category.{Category}
 use Rattle.lb_base.specs.declared.token.Category.TheVariants as category
 use Rattle.lb_base.specs.declared.token.Tok.{Tok}
@@ -19,7 +19,6 @@ use Rattle.lb_model.specs.declared.place.Mode.TheVariants.{Vertical as VerticalM
 use Rattle.lb_model.specs.declared.place.Place.{Place}
 use Rattle.lb_model.specs.declared.world.World.{World}
 use Rattle.lb_model.specs.Configs.{Config}
-use Rattle.lb_model.specs.Expandables.{expandable}
 use Rattle.lb_model.specs.Kinds.{steps_of}
 use Rattle.lb_model.specs.Meanings.{undefined}
 use Rattle.lb_model.specs.Settings.{State, look}
@@ -27,34 +26,36 @@ use Rattle.lb_model.specs.Sources.{FileText}
 use Rattle.lb_model.specs.Sources.Item.{Text}
 use Rattle.lb_base.specs.declared.node.Axis.TheVariants.{Horizontal, Vertical}
 use Rattle.lb_model_engine.specs.declared.definition.NewKind.TheVariants.{New, Renew, Provide}
-use Rattle.lb_model_engine.specs.declared.nest.BoxContext.TheVariants.{Shifted}
-use Rattle.lb_model_engine.specs.declared.nest.ListKind.TheVariants as list
-use Rattle.lb_model_engine.specs.declared.turn.Went.{Went}
-use Rattle.lb_model_engine.specs.declared.turn.Went.TheVariants as went
-use Rattle.lb_model_engine.specs.Boxes.{box_begun, box_copied, box_taken, discretionary, end_group, footnote, lower, markboth, markright, raise, vadjust}
+use Rattle.lb_model_nest.specs.declared.nest.BoxContext.TheVariants.{Shifted}
+use Rattle.lb_model_nest.specs.declared.nest.ListKind.TheVariants as list
+use Rattle.lb_model_nest.specs.declared.turn.Went.{Went}
+use Rattle.lb_model_nest.specs.declared.turn.Went.TheVariants as went
+use Rattle.lb_model_nest.specs.Boxes.{end_group}
+use Rattle.lb_model_engine.specs.Boxes.{box_begun, box_copied, box_taken, lower, raise}
 use Rattle.lb_model_engine.specs.Counting.{addcontentsline, addtocounter, include, label, matter, newcounter, pagenumbering, pageref, pagestyle, ref_row, refstepcounter, setcounter, size_row, stepcounter, style_row}
-use Rattle.lb_model_engine.specs.Definitions.{new_register, newcommand, newenvironment, newif}
-use Rattle.lb_model_engine.specs.Documents.{begin_row, documentclass, includeonly, toc_row}
-use Rattle.lb_model_engine.specs.Groups.{aftergroup, begin_group_character, begingroup, endgroup}
+use Rattle.lb_model_engine.specs.NewNames.{new_register, newcommand, newenvironment, newif}
+use Rattle.lb_model_engine.specs.Documents.{documentclass, includeonly, toc_row}
+use Rattle.lb_model_engine.specs.Environments.{begin_row, end_row, is_bounded, over}
+use Rattle.lb_model_nest.specs.Groups.{begin_group_character, begingroup, endgroup}
+use Rattle.lb_model_engine.specs.Groups.{aftergroup}
 use Rattle.lb_model_engine.specs.Headings.{contentsline, head_row}
-use Rattle.lb_model_engine.specs.Items.{discretionary_hyphen, fil, fill, horizontal_glue, hrule, hskip, hspace, ignorespaces, indent, italic_correction, kern, leavevmode, line_break, noindent, par, penalty, plainnext, ss, unskip, vertical_glue, vrule, vskip, vspace}
+use Rattle.lb_model_nest.specs.Items.{discretionary_hyphen, fil, fill, horizontal_glue, ignorespaces, indent, italic_correction, leavevmode, noindent, par, plainnext, ss, unskip, vertical_glue}
+use Rattle.lb_model_engine.specs.Items.{hrule, hskip, hspace, kern, line_break, penalty, vrule, vskip, vspace}
 use Rattle.lb_model_engine.specs.Lists.{endlist_row, item_row, list_row}
-use Rattle.lb_model_engine.specs.Pages.{page_cleared}
-use Rattle.lb_model_engine.specs.Paragraphs.{paragraph_ended}
+use Rattle.lb_model_engine.specs.Material.{discretionary, footnote, markboth, markright, vadjust}
+use Rattle.lb_model_nest.specs.Pages.{page_cleared}
+use Rattle.lb_model_nest.specs.Paragraphs.{paragraph_ended}
 use Rattle.lb_model_engine.specs.Prefixes.{assignment, global_row, long_row}
-use Rattle.lb_model_engine.specs.Reads.{next_or}
+use Rattle.lb_model_engine.specs.Reads.{next_or, past_spaces_or}
 use Rattle.lb_model_engine.specs.Registers.{variable_row}
 use Rattle.lb_model_engine.specs.Texts.{changecase, typeout}
-use Rattle.lb_model_engine.specs.Wholes.{Executed, Whole, and_as, and_then, executed, new_level, on, stop, stop_at}
-use Rattle.lb_model_engine.specs.Words.{char, character, control_space, space, word_ended}
+use Rattle.lb_model_nest.specs.Wholes.{Executed, Whole, and_as, and_then, executed, new_level, on, stop, stop_at}
+use Rattle.lb_model_nest.specs.Words.{character, control_space, space, word_ended}
+use Rattle.lb_model_engine.specs.Words.{char}
 
 -- ---- Commands
 
--- a command that is expanded does nothing where it is not
-abbrev pub other_row : Command → Whole → Executed
-other_row c w = if is_some (expandable c) then on w else stop NotYet w
-
--- commands that are no assignments; none of these is expanded
+-- commands that are no assignments; one that is expanded does nothing where it is not
 abbrev pub command_row : Command → Whole → Executed
 command_row command.Relax w = on w
 command_row command.EndCsName w = stop TokenMisplaced w
@@ -140,7 +141,8 @@ command_row command.DocumentClass w = documentclass w
 command_row command.IncludeOnly w = includeonly w
 command_row command.Toc w = toc_row w
 command_row command.Begin w = begin_row w
-command_row c w = other_row c w
+command_row command.End w = end_row w
+command_row c w = on w
 
 -- ---- Tokens
 
@@ -190,25 +192,37 @@ abbrev pub cleared : Whole → Executed
 cleared w = and_then (and_then (and_then (word_ended w) paragraph_ended) page_cleared) (executed went.Over)
 
 -- a group or a conditional that is open is a fault at this place
-abbrev pub ended : Place → Whole → Executed
-ended last w =
+abbrev pub text_ended : Place → Whole → Executed
+text_ended last w =
     if is_none w.feed.groups
     then (if is_none w.feed.conditionals then cleared w else stop_at (open_at IfOpen last) w)
     else stop_at (open_at GroupOpen last) w
 
+-- the feed has no more
+abbrev pub ended : Place → Whole → Executed
+ended last w = over (text_ended last) w
+
 -- ---- Turns
 
--- where text is skipped up to the end, the fault is there too
+-- where text is skipped up to the end, and not to a boundary, the fault is there too
+abbrev pub stopped_at : Place → Executed → Executed
+stopped_at last e = record { done = record { went = went.StoppedAt (open_at IfOpen last); next = e.done.next }; noted = e.noted }
+
 abbrev pub at_end_as : Went → Place → Executed → Executed
-at_end_as (went.Stopped IfOpen) last e = record { done = record { went = went.StoppedAt (open_at IfOpen last); next = e.done.next }; noted = e.noted }
+at_end_as (went.Stopped IfOpen) last e = if is_bounded e.done.next.feed.source then e else stopped_at last e
 at_end_as way last e = e
 
 abbrev pub at_end : Place → Executed → Executed
 at_end last e = at_end_as e.done.went last e
 
--- the next token that is not expanded, and what is done with it; the text ends at this place
+-- the next token that is not expanded, behind spaces if these are skipped
+abbrev pub next_by : Bool → (Whole → Executed) → (Tok → Option Meaning → Whole → Executed) → Whole → Executed
+next_by true at_end row w = past_spaces_or at_end row (record w { skips_spaces = false })
+next_by false at_end row w = next_or at_end row w
+
+-- what is done with it; the text ends at this place
 unfoldable pub turn : Place → Whole → Executed
-turn last w = at_end last (next_or (ended last) token_row w)
+turn last w = at_end last (next_by w.skips_spaces (ended last) token_row w)
 
 -- within so many turns
 abbrev pub or_more : Went → Executed → Executed → Executed
@@ -219,9 +233,10 @@ unfoldable pub turns : ℕ → Place → Whole → Executed
 turns zero last w = stop StepLimit w
 turns (suc left) last w = let e = turn last w in or_more e.done.went e (let more = turns left last e.done.next in more)
 
--- each turn but the last takes a step, so the steps are enough
+-- each turn but the last takes a step, but for that of an end of an environment, before which a step was taken for its `\end`: so these are
+-- enough
 abbrev pub text_set : Place → Whole → Executed
-text_set last w = turns (suc w.feed.left) last w
+text_set last w = turns (suc (w.feed.left + w.feed.left)) last w
 
 -- ---- A text from the beginning
 
@@ -237,6 +252,8 @@ whole_of c =
       page = [];
       after = [];
       lists = [];
+      ending = [];
+      skips_spaces = false;
       plain_next = false;
     }
 

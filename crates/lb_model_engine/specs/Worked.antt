@@ -15,9 +15,9 @@ use Rattle.lb_values.specs.declared.value.Value.TheVariants as value
 use Rattle.lb_model.specs.Settings.{State}
 use Rattle.lb_model.specs.StartState.{start_category}
 use Rattle.lb_model_expansion.specs.Worked as expanded
-use Rattle.lb_model_engine.specs.declared.turn.Went.{Went}
+use Rattle.lb_model_nest.specs.declared.turn.Went.{Went}
 use Rattle.lb_model_engine.specs.Turns.{whole_of}
-use Rattle.lb_model_engine.specs.Wholes.{Executed, Whole}
+use Rattle.lb_model_nest.specs.Wholes.{Executed, Whole}
 
 -- characters with their categories at the start, and a control sequence
 abbrev pub character : ℕ → Tok

@@ -11,27 +11,35 @@ ghost use Rattle.lb_values.specs.declared.meaning.Register.TheVariants as regist
 ghost use Rattle.lb_values.specs.declared.reach.Reach.TheVariants.{Global, Local};
 ghost use Rattle.lb_values.specs.declared.value.PageStyle.TheVariants.{MyHeadings};
 ghost use Rattle.lb_values.specs.declared.value.Value.TheVariants as value;
+ghost use Rattle.lb_model.specs.declared.append.Append.TheVariants.{Log};
 ghost use Rattle.lb_model.specs.declared.group.GroupKind.TheVariants.{Material, Semi, Simple};
 ghost use Rattle.lb_model.specs.Sources.Item.{Pending};
+ghost use Rattle.lb_model_journal.specs.declared.event.Event.TheVariants as event;
+ghost use Rattle.lb_model_journal.specs.LogLines.{log_line};
 ghost use Rattle.lb_model_engine.specs.declared.definition.NewKind.TheVariants.{New, Provide, Renew};
-ghost use Rattle.lb_model_engine.specs.declared.display.HeadLevel.TheVariants.{Chapter, Section};
-ghost use Rattle.lb_model_engine.specs.declared.turn.Went.TheVariants as went;
-ghost use Rattle.lb_model_engine.specs.Boxes.{raise, vadjust};
-ghost use Rattle.lb_model_engine.specs.Definitions.{def_row, futurelet_row, let_row, new_register, newcommand, newif, plain_macro};
-ghost use Rattle.lb_model_engine.specs.Groups.{aftergroup, begin_group_character, begingroup, endgroup, group_closed};
+ghost use Rattle.lb_model_nest.specs.declared.display.HeadLevel.TheVariants.{Chapter, Section};
+ghost use Rattle.lb_model_nest.specs.declared.turn.Went.TheVariants as went;
+ghost use Rattle.lb_model_engine.specs.Boxes.{raise};
+ghost use Rattle.lb_model_engine.specs.Definitions.{def_row, futurelet_row, let_row, plain_macro};
+ghost use Rattle.lb_model_nest.specs.Groups.{begin_group_character, begingroup, endgroup, group_closed};
 ghost use Rattle.lb_model_engine.specs.Documents.{names_between};
+ghost use Rattle.lb_model_engine.specs.Groups.{aftergroup};
 ghost use Rattle.lb_model_engine.specs.Headings.{contents, marks, numberline};
-ghost use Rattle.lb_model_engine.specs.Items.{italic_correction};
+ghost use Rattle.lb_model_nest.specs.Items.{italic_correction};
 ghost use Rattle.lb_model_engine.specs.Kernel.{kernel_lines};
 ghost use Rattle.lb_model_engine.specs.Lists.{beside, endlist_row, item_row, toks};
+ghost use Rattle.lb_model_engine.specs.Material.{vadjust};
+ghost use Rattle.lb_model_engine.specs.NewNames.{new_register, newcommand, newif};
 ghost use Rattle.lb_model_engine.specs.Texts.{tokens_of_text};
 ghost use Rattle.lb_model_engine.specs.Turns.{ended, token_row};
-ghost use Rattle.lb_model_engine.specs.Wholes.{and_then, change, on, stop_at};
+ghost use Rattle.lb_model_nest.specs.Paragraphs.{lines_logged, paragraph_shape};
+ghost use Rattle.lb_model_nest.specs.Wholes.{and_then, change, on, stop_at};
 ghost use Rattle.lb_model_engine.specs.Worked.{control, digest, held, size_of_lines, tokens, went_of, whole};
-ghost use Rattle.lb_model_engine.specs.Words.{factor_behind};
+ghost use Rattle.lb_model_nest.specs.Words.{factor_behind};
+ghost use Rattle.lb_model_engine.specs.WorkedChapters.{fault_of_part, first_parts, last_parts, middle_parts, no_faults, fault_of, fault_told, faulty_environments, faulty_lists, faulty_names, faulty_numbers, faulty_rows, held_behind, held_told, event_of_line, roman_character, set, set_within, typed_behind, typed_told, word_of, worked_environments, worked_registers, worked_texts};
 
 /// Groups: those that do not match, what is local and what is global, and the tokens that come behind.
-#[tactic(auto, unfolding(crate::specs::Groups::begingroup, crate::specs::Groups::endgroup, crate::specs::Groups::begin_group_character, crate::specs::Groups::group_opened, crate::specs::Groups::group_closed, crate::specs::Groups::aftergroup, lb_values::specs::Cells::cell_eq))]
+#[tactic(auto, unfolding(lb_model_nest::specs::Groups::begingroup, lb_model_nest::specs::Groups::endgroup, lb_model_nest::specs::Groups::begin_group_character, lb_model_nest::specs::Groups::group_opened, lb_model_nest::specs::Groups::group_closed, lb_model_nest::specs::Groups::kept_after, crate::specs::Groups::aftergroup, lb_values::specs::Cells::cell_eq))]
 pub fn groups()
     ensures none { went_of (endgroup (whole [])) ≡ went.Stopped kind.GroupExtra }
     ensures other { went_of (and_then (begin_group_character (whole [])) endgroup) ≡ went.Stopped kind.GroupExtra }
@@ -75,7 +83,7 @@ pub fn macros()
 {}
 
 /// New names: commands, conditionals and registers.
-#[tactic(auto, unfolding(crate::specs::Definitions::newcommand, crate::specs::Definitions::newif, crate::specs::Definitions::new_register, lb_model::specs::Readings::taken, lb_values::specs::Cells::cell_eq, lb_model::specs::StartState::start_category))]
+#[tactic(auto, unfolding(crate::specs::NewNames::newcommand, crate::specs::NewNames::newif, crate::specs::NewNames::new_register, lb_model::specs::Readings::taken, lb_values::specs::Cells::cell_eq, lb_model::specs::StartState::start_category))]
 pub fn names()
     ensures command { held (newcommand New (whole (control (codes "a") ++ tokens (codes "{b}")))) (cell.Word (codes "a")) ≡ plain_macro true [] (Char Letter 98 ∷ []) }
     ensures starred { held (newcommand New (whole (tokens (codes "*") ++ control (codes "a") ++ tokens (codes "{b}")))) (cell.Word (codes "a")) ≡ plain_macro false [] (Char Letter 98 ∷ []) }
@@ -99,7 +107,7 @@ pub fn factors()
 {}
 
 /// Characters that are refused, and commands that may not stand where they do.
-#[tactic(auto, unfolding(lb_rows::specs::Refusals::refused_rows, crate::specs::Counting::include, crate::specs::Boxes::end_group, crate::specs::Groups::end_group_character, crate::specs::Words::word_ended, crate::specs::Lists::item_row, crate::specs::Lists::endlist_row, crate::specs::Paragraphs::paragraph_ended, crate::specs::Boxes::vadjust, crate::specs::Boxes::raise, crate::specs::Items::italic_correction, lb_model::specs::Readings::taken, lb_model::specs::StartState::start_category))]
+#[tactic(auto, unfolding(lb_rows::specs::Refusals::refused_rows, crate::specs::Counting::include, lb_model_nest::specs::Boxes::end_group, lb_model_nest::specs::Groups::end_group_character, lb_model_nest::specs::Words::word_ended, crate::specs::Lists::item_row, crate::specs::Lists::endlist_row, lb_model_nest::specs::Paragraphs::paragraph_ended, crate::specs::Material::vadjust, crate::specs::Boxes::raise, lb_model_nest::specs::Items::italic_correction, lb_model::specs::Readings::taken, lb_model::specs::StartState::start_category))]
 pub fn refusals()
     ensures math { went_of (token_row (Char MathShift 36) (Some (meaning.Char MathShift 36)) (whole [])) ≡ went.Stopped kind.MathRefused }
     ensures alignment { went_of (token_row (Char AlignmentTab 38) (Some (meaning.Char AlignmentTab 38)) (whole [])) ≡ went.Stopped kind.AlignRefused }
@@ -129,7 +137,7 @@ pub fn made_tokens()
 {}
 
 /// The end of a text: an open group comes before an open conditional, at the place of the end.
-#[tactic(auto, unfolding(crate::specs::Groups::begingroup, crate::specs::Groups::group_opened))]
+#[tactic(auto, unfolding(lb_model_nest::specs::Groups::begingroup, lb_model_nest::specs::Groups::group_opened, crate::specs::Environments::over))]
 pub fn ends()
     ensures group { went_of (and_then (begingroup (whole [])) (ended (record { file = codes "a.tex"; line = 7 }))) ≡ went.StoppedAt (record { kind = kind.GroupOpen; file = codes "a.tex"; line = 7 }) }
 {}
@@ -149,4 +157,45 @@ pub fn written_texts()
     ensures name { tokens_of_text (codes "\\a@b 1") ≡ Some (Word (codes "a@b") ∷ Char Other 49 ∷ []) }
     ensures nothing { tokens_of_text [] ≡ Some [] }
     ensures invalid { tokens_of_text (127 ∷ []) ≡ None }
+{}
+
+/// Chapters of one line that end in a fault, at that line.
+pub fn chapters_that_stop()
+    ensures names { map fault_of faulty_names ≡ map fault_told faulty_names }
+    ensures numbers { map fault_of faulty_numbers ≡ map fault_told faulty_numbers }
+    ensures rows { map fault_of faulty_rows ≡ map fault_told faulty_rows }
+    ensures environments { map fault_of faulty_environments ≡ map fault_told faulty_environments }
+    ensures lists { map fault_of faulty_lists ≡ map fault_told faulty_lists }
+    ensures ended { (set (codes "\\begin{quote}\\end{quote}")).fault ≡ None }
+{}
+
+/// The kernel text in parts: none of them ends in a fault.
+pub fn kernel_parts()
+    ensures first { map fault_of_part first_parts ≡ no_faults first_parts }
+    ensures middle { map fault_of_part middle_parts ≡ no_faults middle_parts }
+    ensures last { map fault_of_part last_parts ≡ no_faults last_parts }
+{}
+
+/// What cells hold and the log tells behind so many turns of a chapter of one line.
+pub fn turns_at_work()
+    ensures registers { map held_behind worked_registers ≡ map held_told worked_registers }
+    ensures environments { map held_behind worked_environments ≡ map held_told worked_environments }
+    ensures texts { map typed_behind worked_texts ≡ map typed_told worked_texts }
+    ensures step_limit { (set_within 4 (codes "\\count1=5 ")).fault ≡ fault_told ([], kind.StepLimit) }
+    ensures steps { (set_within 4 (codes "\\count1=5 ")).steps ≡ 4 }
+{}
+
+/// Characters of a word at work: their nodes, a character that the font lacks, and the space factor.
+pub fn words()
+    ensures nodes { (word_of (codes "Hi")).done.next.level.nodes ≡ roman_character 72 ∷ roman_character 105 ∷ [] }
+    ensures lacked { (word_of (31 ∷ [])).done.next.feed.appends ≡ Log (log_line (event.MissingCharacter 31 (codes "cmr10"))) ∷ [] }
+    ensures lacked_cuts_nothing { (word_of (72 ∷ 31 ∷ 105 ∷ [])).done.next.level.nodes ≡ roman_character 72 ∷ roman_character 105 ∷ [] }
+    ensures sentence { (word_of (codes "i.")).done.next.level.space_factor ≡ pos 3000 }
+    ensures initial { (word_of (codes "I.")).done.next.level.space_factor ≡ pos 1000 }
+{}
+
+/// Lines that are bad, as the log tells them: by how much one is too wide, or that it stretches too far.
+pub fn bad_lines()
+    ensures overfull { event_of_line 70 ≡ event.Overfull (pos 1310720) (codes "a.tex") 1 }
+    ensures underfull { event_of_line 66 ≡ event.Underfull (codes "a.tex") 1 }
 {}

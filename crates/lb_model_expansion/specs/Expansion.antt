@@ -8,7 +8,6 @@ use Rattle.lb_base.specs.declared.token.Tok.{Tok}
 use Rattle.lb_base.specs.declared.token.Tok.TheVariants.{Char, Word, Active}
 use Rattle.lb_rows.specs.declared.command.Command.TheVariants as command
 use Rattle.lb_values.specs.Categories.{category_code}
-use Rattle.lb_values.specs.declared.cell.Cell.{Cell}
 use Rattle.lb_values.specs.declared.cell.Cell.TheVariants as cell
 use Rattle.lb_values.specs.declared.meaning.MacroDef.{MacroDef}
 use Rattle.lb_values.specs.declared.meaning.Meaning.{Meaning}
@@ -26,7 +25,7 @@ use Rattle.lb_model_grammar.specs.declared.condition.Rel.TheVariants.{Less, Equa
 use Rattle.lb_model_grammar.specs.declared.condition.Sought.{Sought}
 use Rattle.lb_model_grammar.specs.declared.condition.Sought.TheVariants.{Any, Nth, End as SoughtEnd}
 use Rattle.lb_model_grammar.specs.declared.condition.Stopper.{Stopper}
-use Rattle.lb_model_grammar.specs.declared.condition.Stopper.TheVariants.{Or, Else, Fi}
+use Rattle.lb_model_grammar.specs.declared.condition.Stopper.TheVariants.{Or, Fi}
 use Rattle.lb_model_grammar.specs.declared.given.Given.{Given}
 use Rattle.lb_model_grammar.specs.declared.given.Given.TheVariants.{Tok as AToken, Quantity as AQuantity, End as AnEnd}
 use Rattle.lb_model_grammar.specs.declared.given.Quantity.{Quantity}
@@ -52,7 +51,7 @@ use Rattle.lb_model.specs.declared.expandable.TestKind.TheVariants as test
 use Rattle.lb_model.specs.declared.open.Compared.{Compared}
 use Rattle.lb_model.specs.declared.open.Compared.TheVariants.{Numbers, Dimensions}
 use Rattle.lb_model.specs.declared.open.Conditional.{Conditional}
-use Rattle.lb_model.specs.declared.open.Conditional.TheVariants.{Deciding, Then, Case, Otherwise}
+use Rattle.lb_model.specs.declared.open.Conditional.TheVariants.{Deciding, Then, Case}
 use Rattle.lb_model.specs.declared.open.Indexed.{Indexed}
 use Rattle.lb_model.specs.declared.open.Indexed.TheVariants as indexed
 use Rattle.lb_model.specs.declared.open.Pairing.{Pairing}
@@ -69,14 +68,14 @@ use Rattle.lb_model.specs.Arguments.{arguments, looks_arguments}
 use Rattle.lb_model.specs.Conditionals.{comparison, decided_as, inside, looks_skipped, may_end, passed, skipped}
 use Rattle.lb_model.specs.Configs.{Config, Reading, in_file, looks_by, looks_in_file, looks_of_meaning, meaning_now, taken_by}
 use Rattle.lb_model.specs.Expandables.{expandable}
-use Rattle.lb_model.specs.FontTable.{font_file, font_name}
 use Rattle.lb_model.specs.Forms.{in_form}
-use Rattle.lb_model.specs.Kinds.{form_of, name_of, size_of, style_of}
+use Rattle.lb_model.specs.Kinds.{form_of, name_of}
 use Rattle.lb_model.specs.Kinds as held
 use Rattle.lb_model.specs.Lines.{is_empty}
 use Rattle.lb_model.specs.Meanings.{is_control, token_meaning, undefined}
+use Rattle.lb_model.specs.PresentFont.{font_chosen, font_file_now, font_text_now, looks_of_font}
 use Rattle.lb_model.specs.Quantities.{Internal, counter_in, indexed_cell, internal_in, looks_internal, picked}
-use Rattle.lb_model.specs.Quantities.Internal.{Known, Tokens, Picked, OfCounter}
+use Rattle.lb_model.specs.Quantities.Internal.{Known, Tokens, Picked}
 use Rattle.lb_model.specs.Readings.{looks_taken, taken}
 use Rattle.lb_model.specs.Same.{same_meaning}
 use Rattle.lb_model.specs.Settings.{look}
@@ -85,7 +84,7 @@ use Rattle.lb_model.specs.Sources.Item.{Text}
 use Rattle.lb_model.specs.Stacked.{StackedNotes, assigned, notes_assigned}
 use Rattle.lb_model_paper.specs.FoundFonts.{Broken, FontFound, Found, Missing, font_found}
 use Rattle.lb_model_paper.specs.Fonts.{FontData}
-use Rattle.lb_model_expansion.specs.declared.expansion.Answer.{Answer}
+use Rattle.lb_model_paper.specs.Texts.{log_file}
 use Rattle.lb_model_expansion.specs.declared.expansion.Answer.TheVariants as answer
 use Rattle.lb_model_expansion.specs.declared.expansion.Went.{Went}
 use Rattle.lb_model_expansion.specs.declared.expansion.Went.TheVariants.{On, Gave, Answered, Over, Stopped}
@@ -229,17 +228,8 @@ part_met stopper tok (part ∷ conditionals) c = part_left stopper part c
 
 -- ---- The present font, for the units that are its quad and its x-height
 
-abbrev pub font_chosen : Config → List ℕ × ℤ
-font_chosen c = unwrap_or (font_name (style_of (look c.world c.cells.now cell.Style)) (size_of (look c.world c.cells.now cell.Size))) ([], pos 0)
-
-abbrev pub font_file_now : Config → List ℕ
-font_file_now c = font_file (unwrap_or (name_of (look c.world c.cells.now cell.Prefix)) []) (font_chosen c).0
-
 abbrev pub present_font : Config → FontFound
-present_font c = font_found (held.text_of (look c.world c.cells.now (cell.File (font_file_now c)))) (font_chosen c).0 (font_chosen c).1
-
-abbrev pub looks_of_font : Config → List Cell
-looks_of_font c = cell.Style ∷ cell.Size ∷ cell.Prefix ∷ cell.File (font_file_now c) ∷ []
+present_font c = font_found (font_text_now c) (font_chosen c).0 (font_chosen c).1
 
 abbrev pub font_length : Want → FontData → ℤ
 font_length want.Ex font = font.parameters.x_height
@@ -274,7 +264,7 @@ abbrev pub input_of : Option (List ℕ) → List ℕ → Config → Performed
 input_of None file c = stopped kind.FileMissing c
 input_of (Some bytes) file c =
     if nat_lt (texts c.source) 101
-    then on (record c { source = Text (text_of file 1 bytes) ∷ c.source; appends = c.appends ++ Log (codes "File " ++ file) ∷ [] })
+    then on (record c { source = Text (text_of file 1 bytes) ∷ c.source; appends = c.appends ++ Log (log_file file) ∷ [] })
     else stopped kind.DepthLimit c
 
 abbrev pub input : List ℕ → Config → Performed
@@ -648,11 +638,11 @@ or_noted went n more = n
 -- within so many turns; a turn that goes on takes a step, but for that of an end
 unfoldable pub next_from : ℕ → Config → Step
 next_from zero c = record { went = Stopped kind.StepLimit; next = c }
-next_from (suc turns) c = let p = step c in or_more p.done.went p.done (next_from turns p.done.next)
+next_from (suc turns) c = let p = step c in or_more p.done.went p.done (let more = next_from turns p.done.next in more)
 
 unfoldable pub noted_from : ℕ → Config → Option StackedNotes → Option StackedNotes
 noted_from zero c n = n
-noted_from (suc turns) c n = let p = step c in or_noted p.done.went (p.noted n) (noted_from turns p.done.next (p.noted n))
+noted_from (suc turns) c n = let p = step c in or_noted p.done.went (p.noted n) (let more = noted_from turns p.done.next (p.noted n) in more)
 
 -- ---- What a caller asks for
 

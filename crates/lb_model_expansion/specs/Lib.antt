@@ -1,3 +1,4 @@
 pub mod Expansion
+pub mod Laws
 pub mod Steps
 pub mod Worked

@@ -1,5 +1,5 @@
 -- Steps: what is done in one, and beside it what is noted.
-use Rattle.std.specs.Prelude.{◌+◌, ◌++◌, Bool, true, false, ℕ, List, [], ◌∷◌, length, nat_lt, Option, if◌then◌else◌}
+use Rattle.std.specs.Prelude.{◌+◌, Bool, true, false, ℕ, List, [], ◌∷◌, length, nat_lt, Option, if◌then◌else◌}
 use Rattle.std.specs.Option.{option_map}
 use Rattle.lb_base.specs.declared.fault.Kind.{Kind}
 use Rattle.lb_base.specs.declared.fault.Kind.TheVariants.{BadTfm, DepthLimit, Runaway}

@@ -2,6 +2,7 @@
 #![tactic(auto)]
 
 pub mod expansion;
+pub mod laws;
 pub mod rows;
 
 pub use expansion::{Answer, Went};

@@ -1,5 +1,6 @@
 -- Paragraphs: their beginning, and their end as lines in the list around (TeXbook, chapter 14; tex.web, parts 38, 39 and 47).
 use Rattle.std.specs.Prelude.{◌+◌, ◌-ℤ◌, ◌++◌, Bool, true, false, not, ◌&&◌, ℕ, ℤ, pos, neg_ℤ, List, [], ◌∷◌, length, unwrap_or, Result, Ok, Err, if◌then◌else◌}
+use Rattle.std.specs.Int.{int_min}
 use Rattle.lb_base.specs.declared.fault.Kind.{Kind}
 use Rattle.lb_base.specs.declared.glue.Glue.{Glue}
 use Rattle.lb_base.specs.declared.glue.Target.TheVariants.{To}
@@ -26,13 +27,13 @@ use Rattle.lb_model_paper.specs.declared.paragraph.LineRules.{LineRules}
 use Rattle.lb_model_paper.specs.declared.paragraph.LineSums.{LineSums}
 use Rattle.lb_model_paper.specs.declared.paragraph.Passes.TheVariants.{Both}
 use Rattle.lb_model_paper.specs.declared.paragraph.Shape.{Shape}
-use Rattle.lb_model_aux.specs.declared.event.Event.{Event}
-use Rattle.lb_model_aux.specs.declared.event.Event.TheVariants as event
-use Rattle.lb_model_aux.specs.LogLines.{log_line}
-use Rattle.lb_model_engine.specs.declared.nest.ListKind.{ListKind}
-use Rattle.lb_model_engine.specs.declared.nest.ListKind.TheVariants as list
-use Rattle.lb_model_engine.specs.Pages.{added, all_added, is_page}
-use Rattle.lb_model_engine.specs.Wholes.{Executed, Whole, and_then, appended, entered, is_vertical, left_level, looking, on, stop, tells, with_node}
+use Rattle.lb_model_journal.specs.declared.event.Event.{Event}
+use Rattle.lb_model_journal.specs.declared.event.Event.TheVariants as event
+use Rattle.lb_model_journal.specs.LogLines.{log_line}
+use Rattle.lb_model_nest.specs.declared.nest.ListKind.{ListKind}
+use Rattle.lb_model_nest.specs.declared.nest.ListKind.TheVariants as list
+use Rattle.lb_model_nest.specs.Pages.{added, all_added, is_page}
+use Rattle.lb_model_nest.specs.Wholes.{Executed, Whole, and_then, appended, entered, is_vertical, left_level, looking, on, stop, tells, with_node}
 
 -- ---- Boxes in vertical lists
 
@@ -148,12 +149,13 @@ finished fill nodes = without_last_glue nodes ++ PenaltyNode (pos 10000) ∷ Glu
 abbrev pub place_now : Whole → Place
 place_now w = unwrap_or w.feed.place (record { file = []; line = 0 })
 
--- how much is missing of the shrink of a line
+-- how much is missing of the shrink of a line, held within 32 bits
 abbrev pub missing_of : Shape → LineSums → ℤ
-missing_of shape sums = neg_ℤ (excess_in shape sums) -ℤ sums.shrink
+missing_of shape sums = int_min (neg_ℤ (excess_in shape sums) -ℤ sums.shrink) (pos 2147483647)
 
 abbrev pub bad_event : Shape → LineSums → Place → Event
-bad_event shape sums place = if is_overfull_line shape sums then event.Overfull (missing_of shape sums) place else event.Underfull place
+bad_event shape sums place =
+    if is_overfull_line shape sums then event.Overfull (missing_of shape sums) place.file place.line else event.Underfull place.file place.line
 
 -- the bad lines are logged, at the place of the paragraph's end
 abbrev pub line_logged : Shape → List Node → ℕ → BreakEnd → Whole → Whole
@@ -179,13 +181,13 @@ lines_added shape nodes i [] w = on w
 lines_added shape nodes i (end ∷ ends) w =
     and_then (line_added (set_line shape nodes i (end.item + 1) (length ends)) w) (lines_added shape nodes (end.item + 1) ends)
 
--- where each line can be made
+-- where each line can be made, all bad lines are logged, and then the lines are added
 abbrev pub lines_placed : Result (List Node) Kind → Shape → List Node → List BreakEnd → Whole → Executed
 lines_placed (Err kind) shape nodes ends w = stop kind w
-lines_placed (Ok lines) shape nodes ends w = lines_added shape nodes 0 ends w
+lines_placed (Ok lines) shape nodes ends w = lines_added shape nodes 0 ends (lines_logged shape nodes 0 ends w)
 
 abbrev pub broken_at : Shape → List Node → List BreakEnd → Whole → Executed
-broken_at shape nodes ends w = lines_placed (lines_of shape nodes ends) shape nodes ends (lines_logged shape nodes 0 ends w)
+broken_at shape nodes ends w = lines_placed (lines_of shape nodes ends) shape nodes ends w
 
 abbrev pub broken : Result BreakList Kind → Shape → List Node → Whole → Executed
 broken (Err kind) shape nodes w = stop kind w

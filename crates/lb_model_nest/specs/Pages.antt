@@ -36,13 +36,13 @@ use Rattle.lb_model_paper.specs.declared.pages.PageLengths.{PageLengths}
 use Rattle.lb_model_paper.specs.declared.pages.PageLook.{PageLook}
 use Rattle.lb_model_paper.specs.declared.pages.PagePart.{PagePart}
 use Rattle.lb_model_paper.specs.declared.pages.PageRules.{PageRules}
-use Rattle.lb_model_aux.specs.declared.event.Event.TheVariants as event
-use Rattle.lb_model_aux.specs.LogLines.{log_line}
-use Rattle.lb_model_aux.specs.Written.{contents_line, label_line}
-use Rattle.lb_model_engine.specs.declared.nest.ListKind.{ListKind}
-use Rattle.lb_model_engine.specs.declared.nest.ListKind.TheVariants as list
-use Rattle.lb_model_engine.specs.Fonts.{in_number_font}
-use Rattle.lb_model_engine.specs.Wholes.{Executed, Whole, and_then, appended, change, change_or, looking, on, stop, tells, with_node}
+use Rattle.lb_model_journal.specs.declared.event.Event.TheVariants as event
+use Rattle.lb_model_journal.specs.LogLines.{log_line}
+use Rattle.lb_model_journal.specs.Written.{contents_line, label_line}
+use Rattle.lb_model_nest.specs.declared.nest.ListKind.{ListKind}
+use Rattle.lb_model_nest.specs.declared.nest.ListKind.TheVariants as list
+use Rattle.lb_model_nest.specs.Fonts.{in_number_font}
+use Rattle.lb_model_nest.specs.Wholes.{Executed, Whole, and_then, appended, change, change_or, looking, on, stop, tells, with_node, without_steps}
 
 -- ---- Characters that a font lacks
 
@@ -81,7 +81,7 @@ head_foot style.MyHeadings = Head
 
 abbrev pub length_cells : List Cell
 length_cells =
-    Par TextWidth ∷ Par TextHeight ∷ Par HeadHeight ∷ Par HeadSep ∷ Par FootSkip ∷ Par TopMargin ∷ Par OddSideMargin ∷ Par EvenSideMargin ∷ []
+    Par TopMargin ∷ Par OddSideMargin ∷ Par EvenSideMargin ∷ Par TextWidth ∷ Par TextHeight ∷ Par HeadHeight ∷ Par HeadSep ∷ Par FootSkip ∷ []
 
 abbrev pub page_lengths : Whole → PageLengths
 page_lengths w =
@@ -96,9 +96,13 @@ page_lengths w =
       evensidemargin = dimension_of (tells w (Par EvenSideMargin));
     }
 
--- the marks that pages before it have left, which are looked at where the page has a head
+-- the marks of a page that has a head: its own, or those that pages before it have left
 abbrev pub carried_marks : Whole → HeadBoxes
 carried_marks w = record { left = boxed_of (tells w LeftMark); right = boxed_of (tells w RightMark) }
+
+abbrev pub marks_shown : HeadFoot → List Node → Whole → HeadBoxes
+marks_shown Head items w = head_boxes (carried_marks w) items
+marks_shown other items w = record { left = None; right = None }
 
 abbrev pub mark_cells : HeadFoot → List Cell
 mark_cells Head = LeftMark ∷ RightMark ∷ []
@@ -106,12 +110,12 @@ mark_cells other = []
 
 abbrev pub page_look : HeadFoot → List Node → PagePart → Whole → PageLook
 page_look which digits part w =
-    let marks : HeadBoxes = head_boxes (carried_marks w) part.items in
+    let marks : HeadBoxes = marks_shown which part.items w in
     record { number = page_number w; digits = digits; style = which; left = marks.left; right = marks.right; lengths = page_lengths w }
 
 -- the number as nodes: its characters make a word, and what the font lacks is logged
 abbrev pub digits_made : Option (List Node × ℕ) → (List Node → Whole → Executed) → Whole → Executed
-digits_made None row w = stop StepLimit w
+digits_made None row w = stop StepLimit (without_steps w)
 digits_made (Some made) row w = row made.0 (record w { feed = record w.feed { left = made.1 } })
 
 abbrev pub digits_in : List ℕ → FontData → (List Node → Whole → Executed) → Whole → Executed

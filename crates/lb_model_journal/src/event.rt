@@ -1,6 +1,5 @@
 //! What the log tells.
 use lb_base::{Bytes, Fault, Name, TokList};
-use lb_model::Place;
 
 /// An event that the log has a line for. The lines are this project's own, but that a missing width stands as tex.web prints it.
 #[derive(Drop)]
@@ -13,10 +12,10 @@ pub enum Event {
     File(Name),
     /// A page of this number is shipped.
     Page(i32),
-    /// A line is too wide, by so many scaled points; the place is that of its paragraph's end.
-    Overfull(i32, Place),
-    /// A line stretches too far; the place is that of its paragraph's end.
-    Underfull(Place),
+    /// A line is too wide, by so many scaled points; its paragraph ends at this line of a file.
+    Overfull { missing: i32, file: Name, line: u64 },
+    /// A line stretches too far; its paragraph ends at this line of a file.
+    Underfull { file: Name, line: u64 },
     /// A font has no character of this code.
     MissingCharacter(u8, Name),
     /// A reference to a key that has no label.

@@ -19,17 +19,18 @@ use Rattle.lb_model.specs.Settings.{look}
 use Rattle.lb_model.specs.Sources.{pending}
 use Rattle.lb_model.specs.Stacked.{StackedNotes, assigned, looked_all, notes_assigned}
 use Rattle.lb_model_paper.specs.Fonts.{FontData}
-use Rattle.lb_model_engine.specs.declared.display.Display.{Display}
-use Rattle.lb_model_engine.specs.declared.nest.Level.{Level}
-use Rattle.lb_model_engine.specs.declared.nest.ListKind.{ListKind}
-use Rattle.lb_model_engine.specs.declared.nest.ListKind.TheVariants as list
-use Rattle.lb_model_engine.specs.declared.turn.Went.{Went}
-use Rattle.lb_model_engine.specs.declared.turn.Went.TheVariants as went
+use Rattle.lb_model_nest.specs.declared.display.Display.{Display}
+use Rattle.lb_model_nest.specs.declared.nest.Level.{Level}
+use Rattle.lb_model_nest.specs.declared.nest.ListKind.{ListKind}
+use Rattle.lb_model_nest.specs.declared.nest.ListKind.TheVariants as list
+use Rattle.lb_model_nest.specs.declared.turn.Went.{Went}
+use Rattle.lb_model_nest.specs.declared.turn.Went.TheVariants as went
 
 -- A whole configuration: what the feed has, with the states of the open groups and what is pending; the innermost open list, and the lists
 -- around it, the innermost first; the characters of the word under construction, with its font; the list of pages; for each open group the
 -- tokens that come after it, the innermost group first; the kinds of the open lists of items and of displayed paragraphs, the innermost
--- first; and whether the next paragraph has no indent
+-- first; the names of the environments whose ends are under way, the innermost first; whether spaces are skipped before the next token; and
+-- whether the next paragraph has no indent
 pub record Whole : Type 0 where
   pub feed : Config
   pub level : Level
@@ -39,6 +40,8 @@ pub record Whole : Type 0 where
   pub page : List Node
   pub after : List (List Tok)
   pub lists : List Display
+  pub ending : List (List ℕ)
+  pub skips_spaces : Bool
   pub plain_next : Bool
 
 -- ---- What is done, and what is noted
@@ -108,6 +111,10 @@ with_feed c w = record w { feed = c }
 -- tokens are put before the rest: there is room for a million
 abbrev pub put : List Tok → Whole → Executed
 put toks w = if nat_lt 1000000 (length toks + pending w.feed.source) then stop DepthLimit w else on (with_feed (put_all toks w.feed) w)
+
+-- all steps are taken
+abbrev pub without_steps : Whole → Whole
+without_steps w = record w { feed = record w.feed { left = 0 } }
 
 -- something is added to the journal
 abbrev pub appended : Append → Whole → Whole

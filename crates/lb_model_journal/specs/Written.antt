@@ -1,19 +1,14 @@
 -- Token lists and lines as they are written to aux files (tex.web, sections 262, 263 and 294; source2e, files ltfiles, ltsect and ltxref). Texts
 -- are bytes; each line ends in a line feed.
-use Rattle.std.specs.Prelude.{ℕ, ℤ, ◌+◌, ◌&&◌, ◌||◌, not, nat_le, Bool, false, List, [], ◌∷◌, ◌++◌, map, codes, unwrap_or, if◌then◌else◌}
+use Rattle.std.specs.Prelude.{ℕ, ℤ, ◌+◌, ◌&&◌, ◌||◌, not, nat_le, Bool, false, List, [], ◌∷◌, ◌++◌, codes, if◌then◌else◌}
 use Rattle.std.specs.Fmt.{signed_decimal}
 use Rattle.std.specs.List.{flat_map}
 use Rattle.lb_base.specs.declared.token.Category.TheVariants as category
 use Rattle.lb_base.specs.declared.token.Tok.{Tok}
 use Rattle.lb_base.specs.declared.token.Tok.TheVariants.{Char, Word, Active, Param}
-use Rattle.lb_values.specs.declared.cell.Cell.{Cell}
-use Rattle.lb_values.specs.declared.cell.Cell.TheVariants.{Counter, Counters}
 use Rattle.lb_values.specs.declared.value.LabelPair.{LabelPair}
-use Rattle.lb_model.specs.declared.world.World.{World}
-use Rattle.lb_model.specs.Kinds.{names_of, number_of}
-use Rattle.lb_model.specs.Settings.{State, look}
 use Rattle.lb_model_paper.specs.Texts.{line}
-use Rattle.lb_model_aux.specs.declared.entry.Entry3.{Entry3}
+use Rattle.lb_model_journal.specs.declared.entry.Entry3.{Entry3}
 
 -- ---- Token lists
 
@@ -66,20 +61,3 @@ counter_line counter = line (codes "\\setcounter" ++ braced counter.0 ++ braced 
 -- a chapter's checkpoint with these counters
 abbrev pub checkpoint_lines : List ℕ → List (List ℕ × ℤ) → List ℕ
 checkpoint_lines chapter counters = line (codes "\\@setckpt" ++ braced chapter ++ 123 ∷ []) ++ flat_map counter_line counters ++ line (125 ∷ [])
-
--- ---- The checkpoint of a state
-
--- the counters that stand in it
-abbrev pub counter_names : World → State → List (List ℕ)
-counter_names w s = unwrap_or (names_of (look w s Counters)) []
-
--- each with its number, 0 where it has none
-abbrev pub numbered : World → State → List ℕ → List ℕ × ℤ
-numbered w s name = (name, number_of (look w s (Counter name)))
-
-abbrev pub checkpoint_in : World → State → List ℕ → List ℕ
-checkpoint_in w s chapter = checkpoint_lines chapter (map (numbered w s) (counter_names w s))
-
--- the cells that are looked at for it, in order
-abbrev pub looks_of_checkpoint : World → State → List Cell
-looks_of_checkpoint w s = Counters ∷ map Counter (counter_names w s)

@@ -7,8 +7,8 @@ use Rattle.lb_model.specs.FontTable.{font_file, font_name}
 use Rattle.lb_model.specs.Kinds.{name_of, text_of}
 use Rattle.lb_model_paper.specs.Fonts.{FontData}
 use Rattle.lb_model_paper.specs.FoundFonts.{Broken, FontFound, Found, Missing, font_found}
-use Rattle.lb_model_expansion.specs.Expansion.{font_file_now, looks_of_font, present_font}
-use Rattle.lb_model_engine.specs.Wholes.{Executed, Whole, looking, stop, stop_at, tells}
+use Rattle.lb_model.specs.PresentFont.{font_chosen, font_file_now, font_text_now, looks_of_font}
+use Rattle.lb_model_nest.specs.Wholes.{Executed, Whole, looking, stop, stop_at, tells}
 
 -- what is done with a font; a file that is missing, or breaks a rule of the format at a word, is a fault
 abbrev pub font_to : FontFound → List ℕ → (FontData → Whole → Executed) → Whole → Executed
@@ -18,7 +18,9 @@ font_to (Broken word) file row w = stop_at (record { kind = BadTfm; file = file;
 
 -- the font of the present style and size
 abbrev pub present : (FontData → Whole → Executed) → Whole → Executed
-present row w = looking (looks_of_font w.feed) (font_to (present_font w.feed) (font_file_now w.feed) row w)
+present row w =
+    looking (looks_of_font w.feed)
+    (font_to (font_found (font_text_now w.feed) (font_chosen w.feed).0 (font_chosen w.feed).1) (font_file_now w.feed) row w)
 
 -- the font of the numbers of pages: that of style 0 at size 4
 abbrev pub number_font : List ℕ × ℤ

@@ -1,0 +1,10 @@
+pub mod FallsBoxes
+pub mod FallsCounters
+pub mod FallsHeadings
+pub mod FallsNames
+pub mod FallsNest
+pub mod FallsPages
+pub mod FallsParagraphs
+pub mod FallsReads
+pub mod FallsRows
+pub mod FallsTurns

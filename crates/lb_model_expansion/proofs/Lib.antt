@@ -1,0 +1,4 @@
+pub mod FallsCommands
+pub mod FallsGiven
+pub mod FallsReadings
+pub mod FallsSteps
