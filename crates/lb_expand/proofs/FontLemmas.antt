@@ -12,7 +12,8 @@ use Rattle.lb_model_grammar.specs.declared.given.Given.{Given}
 use Rattle.lb_model_grammar.specs.declared.given.ScanKind.{ScanKind}
 use Rattle.lb_model_grammar.specs.declared.given.Want.{Want}
 use Rattle.lb_model_paper.specs.FoundFonts.{Broken, FontFound, Found, Missing}
-use Rattle.lb_model_expansion.specs.Expansion.{font_file_now, font_size, looks_of_font, present_font}
+use Rattle.lb_model.specs.PresentFont.{font_file_now, looks_of_font}
+use Rattle.lb_model_expansion.specs.Expansion.{font_size, present_font}
 use Rattle.lb_model_expansion.specs.Steps.{Performed, looking}
 use Rattle.lb_expand.specs.Measures.{measured, measured_as}
 use Rattle.lb_expand.specs.Performs.{Passes}

@@ -5,9 +5,9 @@ use Rattle.lb_base.specs.declared.fault.Stop.TheVariants.{Memory, Fault, At}
 use Rattle.lb_base.specs.declared.token.Tok.{Tok}
 use Rattle.lb_model.specs.Configs.{Config, looks_by, taken_by}
 use Rattle.lb_model_expansion.specs.declared.expansion.Went.{Went}
-use Rattle.lb_model_expansion.specs.declared.expansion.Went.TheVariants.{Gave, Over, Stopped, StoppedAt}
-use Rattle.lb_model_expansion.specs.Expansion.{got_met, next_from, noted_from}
-use Rattle.lb_model_expansion.specs.Steps.{Performed, ends_pass, looking}
+use Rattle.lb_model_expansion.specs.declared.expansion.Went.TheVariants.{Answered, Gave, On, Over, Stopped, StoppedAt}
+use Rattle.lb_model_expansion.specs.Expansion.{got_met, next_from, noted_from, resumed, token_met}
+use Rattle.lb_model_expansion.specs.Steps.{Performed, and_then, ends_pass, looking}
 
 -- the next token is met
 abbrev pub met : Config → Performed
@@ -19,6 +19,10 @@ met c =
 -- so many turns
 abbrev pub ran_from : ℕ → Config → Performed
 ran_from turns c = record { done = next_from turns c; noted = noted_from turns c }
+
+-- a token that was taken is met, and so many turns are done behind it
+abbrev pub met_behind : Tok → ℕ → Config → Performed
+met_behind tok turns c = and_then (resumed (token_met tok c)) (ran_from turns)
 
 -- a token that is not expanded, or the end of the piece
 abbrev pub token_came : Option Tok → Went
@@ -37,3 +41,12 @@ abbrev pub stop_of : Went → Stop
 stop_of (Stopped kind) = Fault kind
 stop_of (StoppedAt fault) = At fault
 stop_of went = Memory
+
+-- the next token, where turns ended so
+abbrev pub token_of : Went → Result (Option Tok) Stop
+token_of (Gave tok) = Ok (Some tok)
+token_of Over = Ok None
+token_of (Stopped kind) = Err (Fault kind)
+token_of (StoppedAt fault) = Err (At fault)
+token_of On = Err Memory
+token_of (Answered answer) = Err Memory

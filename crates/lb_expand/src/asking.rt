@@ -156,8 +156,8 @@ impl<'a, C: Cells> Feeder<'a, C> {
         want: Want,
     ) -> Result<Closed, NoMemory>
         requires { want_of (meant scan.kind scan.given) ≡ Some want }
-        ensures closes { ClosesOver C.Cells (λ more c. scan_as (meant scan.kind scan.given) scan.kind purpose scan.given (λ asked. stopped NumberMissing c) more c)
-            result self.new self.old }
+        ensures closes { ClosesOver C.Cells (λ more c. scan_as (meant scan.kind scan.given) scan.kind purpose scan.given (λ asked. stopped NumberMissing c)
+            more c) result self.new self.old }
         ensures same_cells { self.new.cells.ghost_name ≡ self.old.cells.ghost_name }
         ensures same_desk { self.new.desk.ghost_name ≡ self.old.desk.ghost_name }
     {
@@ -225,8 +225,8 @@ impl<'a, C: Cells> Feeder<'a, C> {
 
     // The caller asks for what a number picks.
     fn pick_for_caller(&mut self, indexed: Indexed) -> Result<Went, NoMemory>
-        ensures performs { PerformsOver C.Cells (λ c. if is_tokens indexed then answered (answers.Quantity quantities.NotOne) c else more_to_read (APicked indexed)
-            reading.Quantity [] c) result self.new self.old }
+        ensures performs { PerformsOver C.Cells (λ c. if is_tokens indexed then answered (answers.Quantity quantities.NotOne) c else more_to_read (APicked
+            indexed) reading.Quantity [] c) result self.new self.old }
         ensures same_cells { self.new.cells.ghost_name ≡ self.old.cells.ghost_name }
         ensures same_desk { self.new.desk.ghost_name ≡ self.old.desk.ghost_name }
     {

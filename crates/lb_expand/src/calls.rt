@@ -1,5 +1,5 @@
 //! What the layer above asks of a feeder.
-ghost use Rattle.std.specs.Prelude.{◌≡◌, [], length, nat_lt};
+ghost use Rattle.std.specs.Prelude.{◌≡◌, ◌≤◌, ◌^◌, ℕ, [], length, nat_lt};
 ghost use Rattle.std.specs.Option.{option_copied};
 ghost use Rattle.lb_model.specs.Configs.{looks_of_meaning, meaning_now};
 ghost use Rattle.lb_model.specs.declared.open.ReadingKind.TheVariants as reading;
@@ -7,13 +7,14 @@ ghost use Rattle.lb_model_expansion.specs.Expansion.{body_asked, internal_given,
 ghost use Rattle.lb_model_expansion.specs.declared.expansion.Answer.TheVariants as answers;
 ghost use Rattle.lb_model_expansion.specs.declared.expansion.Went.TheVariants.{Answered as IsAnswered};
 ghost use Rattle.lb_expand.specs.Feeding.{PerformsOver};
-ghost use Rattle.lb_expand.specs.Turns.{ended_with, stop_of, token_came};
+ghost use Rattle.lb_expand.specs.Turns.{ended_with, met_behind, stop_of, token_came, token_of};
 ghost use Rattle.lb_expand.specs.Works.{Leads, Works};
 
 use crate::feeder::Feeder;
+use crate::giving::is_character;
 use crate::putting::begin;
 use crate::readings::Opened;
-use crate::taking::meaning_of;
+use crate::taking::{meaning_of, take};
 use lb_base::{Bytes, NoMemory, Stop, Tok, TokList};
 use lb_model::{Cells, Place, Purpose};
 use lb_model_expansion::{Answer, Went};
@@ -35,19 +36,64 @@ fn stop_of(went: Went) -> Stop
     }
 }
 
+// What the next token is where turns ended so.
+fn token_of(went: Went) -> Result<Option<Tok>, Stop>
+    ensures { result ≡ token_of went }
+{
+    match went {
+        Went::Gave(tok) => Ok(Some(tok)),
+        Went::Over => Ok(None),
+        Went::Stopped(kind) => Err(Stop::Fault(kind)),
+        Went::StoppedAt(fault) => Err(Stop::At(fault)),
+        Went::On => Err(Stop::Memory),
+        Went::Answered(_answer) => Err(Stop::Memory),
+    }
+}
+
 impl<'a, C: Cells> Feeder<'a, C> {
     /// The next token that is not expanded; none at the end of the piece. The faults are those of expansion, and each has its place, at
-    /// [`Feeder::place`], but for that of a font's file, which tells its own.
+    /// [`Feeder::place`], but for that of a font's file, which tells its own. A character is given at once where no reading is open.
     pub fn next(&mut self) -> Result<Option<Tok>, Stop>
         ensures performs { PerformsOver C.Cells ran (ended_with token_came result) self.new self.old }
         ensures same_cells { self.new.cells.ghost_name ≡ self.old.cells.ghost_name }
         ensures same_desk { self.new.desk.ghost_name ≡ self.old.desk.ghost_name }
     {
-        match self.run()? {
-            Went::Gave(tok) => Ok(Some(tok)),
-            Went::Over => Ok(None),
-            went => Err(stop_of(went)),
+        if !self.desk.readings.is_empty() {
+            return self.next_of_turns();
         }
+        match take(self.cells, self.desk, true) {
+            Ok(Some(tok)) => {
+                if is_character(&tok) {
+                    return Ok(Some(tok));
+                }
+                self.next_from(tok)
+            }
+            Ok(None) => Ok(None),
+            Err(Stop::Fault(kind)) => Err(Stop::Fault(kind)),
+            Err(_) => Err(Stop::Memory),
+        }
+    }
+
+    // The next token that is not expanded, by turns.
+    #[inline(never)]
+    fn next_of_turns(&mut self) -> Result<Option<Tok>, Stop>
+        ensures performs { PerformsOver C.Cells ran (ended_with token_came result) self.new self.old }
+        ensures same_cells { self.new.cells.ghost_name ≡ self.old.cells.ghost_name }
+        ensures same_desk { self.new.desk.ghost_name ≡ self.old.desk.ghost_name }
+    {
+        let went = self.run()?;
+        token_of(went)
+    }
+
+    // The next token that is not expanded, from one on that was taken.
+    #[inline(never)]
+    fn next_from(&mut self, tok: Tok) -> Result<Option<Tok>, Stop>
+        ensures performs { (turns : ℕ) → 2 ^ 64 ≤ turns → PerformsOver C.Cells (met_behind tok turns) (ended_with token_came result) self.new self.old }
+        ensures same_cells { self.new.cells.ghost_name ≡ self.old.cells.ghost_name }
+        ensures same_desk { self.new.desk.ghost_name ≡ self.old.desk.ghost_name }
+    {
+        let went = self.run_from(tok)?;
+        token_of(went)
     }
 
     fn run_scan(&mut self, kind: ScanKind) -> Result<Went, NoMemory>
@@ -107,7 +153,8 @@ impl<'a, C: Cells> Feeder<'a, C> {
 
     /// The quantity that begins with a token that was taken, `NotOne` where none does.
     pub fn quantity(&mut self, tok: &Tok) -> Result<Quantity, Stop>
-        ensures performs { PerformsOver C.Cells (quantity_asked tok.now) (ended_with (λ quantity. IsAnswered (answers.Quantity quantity)) result) self.new self.old }
+        ensures performs { PerformsOver C.Cells (quantity_asked tok.now) (ended_with (λ quantity. IsAnswered (answers.Quantity quantity)) result) self.new
+            self.old }
         ensures same_cells { self.new.cells.ghost_name ≡ self.old.cells.ghost_name }
         ensures same_desk { self.new.desk.ghost_name ≡ self.old.desk.ghost_name }
     {

@@ -167,6 +167,7 @@ impl<'a, C: Cells> Feeder<'a, C> {
                 let alloc = self.desk.alloc;
                 let mut line = Vec::from_slice(alloc, b"File ")?;
                 line.extend_from_slice(file.as_slice())?;
+                line.push(b'\n')?;
                 let end = bytes.get().len();
                 if end == usize::MAX {
                     return Err(AllocError);

@@ -23,7 +23,14 @@ impl<'a, C: Cells> Feed for Feeder<'a, C> {
 
     ghost notes = { λ f. C.notes f.cells.now };
 
-    ghost origin = { λ f. record { made = C.made f.cells.now; groups = f.desk.now.groups; cells = f.cells.ghost_name; desk = f.desk.ghost_name; inner = C.loan f.cells.now } };
+    ghost origin = { λ f. record {
+      made = C.made f.cells.now;
+      groups = f.desk.now.groups;
+      cells = f.cells.ghost_name;
+      desk = f.desk.ghost_name;
+      inner =
+          C.loan f.cells.now;
+    } };
 
     ghost stands = { λ f p. Standing f.desk.now.groups (C.meaning f.cells.now p) };
 

@@ -3,7 +3,8 @@ ghost use Rattle.std.specs.Prelude.{◌≡◌, ◌≤◌, ◌<ℤ◌, pos, lengt
 ghost use Rattle.std.specs.Option.{option_map};
 ghost use Rattle.lb_model.specs.Settings.{Setting, noted_all};
 ghost use Rattle.lb_model.specs.Told.{Told};
-ghost use Rattle.lb_model_expansion.specs.Expansion.{font_file_now, font_length, looks_of_font, present_font};
+ghost use Rattle.lb_model.specs.PresentFont.{font_file_now, looks_of_font};
+ghost use Rattle.lb_model_expansion.specs.Expansion.{font_length, present_font};
 ghost use Rattle.lb_fonts.specs.Loads.{file_of, font_in, noted_by_load};
 ghost use Rattle.lb_expand.specs.declared.desk.Desk.{Desk as ADesk};
 ghost use Rattle.lb_expand.specs.Measures.{measured};

@@ -23,6 +23,7 @@ use lb_rows::Command;
 use lb_values::Meaning;
 use lb_words::{BodyText, BodyTurn, FileName, FileTurn, NameText, WordText, WordTurn};
 
+#[inline(always)]
 pub(crate) fn is_character(tok: &Tok) -> bool
     ensures { result ≡ is_character tok.now }
 {
@@ -68,7 +69,8 @@ impl<'a, C: Cells> Feeder<'a, C> {
         purpose: Purpose,
         tok: &Tok,
     ) -> Result<Closed, NoMemory>
-        ensures closes { ClosesOver C.Cells (word_met (word 0 [] (text ++ AToken tok.now ∷ [])) purpose (text ++ AToken tok.now ∷ [])) result self.new self.old }
+        ensures closes { ClosesOver C.Cells (word_met (word 0 [] (text ++ AToken tok.now ∷ [])) purpose (text ++ AToken tok.now ∷ [])) result self.new
+            self.old }
         ensures same_cells { self.new.cells.ghost_name ≡ self.old.cells.ghost_name }
         ensures same_desk { self.new.desk.ghost_name ≡ self.old.desk.ghost_name }
     {
@@ -89,8 +91,8 @@ impl<'a, C: Cells> Feeder<'a, C> {
         meaning: &Option<Meaning>,
         tok: &Tok,
     ) -> Result<Went, NoMemory>
-        ensures performs { PerformsOver C.Cells (λ c. if ends_name meaning.now then named (map character_code (tokens_in text)) c else (if is_character tok.now then
-            kept reading.Name (text ++ AToken tok.now ∷ []) c else stopped TokenMisplaced c)) result self.new self.old }
+        ensures performs { PerformsOver C.Cells (λ c. if ends_name meaning.now then named (map character_code (tokens_in text)) c else (if is_character
+            tok.now then kept reading.Name (text ++ AToken tok.now ∷ []) c else stopped TokenMisplaced c)) result self.new self.old }
         ensures same_cells { self.new.cells.ghost_name ≡ self.old.cells.ghost_name }
         ensures same_desk { self.new.desk.ghost_name ≡ self.old.desk.ghost_name }
     {
@@ -188,7 +190,8 @@ impl<'a, C: Cells> Feeder<'a, C> {
 
     // A space has ended the name of a file, or stands before it.
     fn end_file(&mut self, name: Bytes) -> Result<Went, NoMemory>
-        ensures performs { PerformsOver C.Cells (λ c. if is_empty name then kept reading.File [] c else and_then (put [] c) (input name)) result self.new self.old }
+        ensures performs { PerformsOver C.Cells (λ c. if is_empty name then kept reading.File [] c else and_then (put [] c) (input name)) result self.new
+            self.old }
         ensures same_cells { self.new.cells.ghost_name ≡ self.old.cells.ghost_name }
         ensures same_desk { self.new.desk.ghost_name ≡ self.old.desk.ghost_name }
     {

@@ -159,8 +159,8 @@ impl<'a, C: Cells> Feeder<'a, C> {
         meaning: &Option<Meaning>,
         tok: Tok,
     ) -> Result<Went, NoMemory>
-        ensures performs { PerformsOver C.Cells (λ c. handed_to meaning.now tok (reading_of opened).kind (reading_of opened).given (internal_given c.readings) c)
-            result self.new self.old }
+        ensures performs { PerformsOver C.Cells (λ c. handed_to meaning.now tok (reading_of opened).kind (reading_of opened).given (internal_given
+            c.readings) c) result self.new self.old }
         ensures same_cells { self.new.cells.ghost_name ≡ self.old.cells.ghost_name }
         ensures same_desk { self.new.desk.ghost_name ≡ self.old.desk.ghost_name }
     {

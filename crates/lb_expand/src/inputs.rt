@@ -98,8 +98,8 @@ impl<'a, C: Cells> Feeder<'a, C> {
 
     // A name in braces, whose opening brace was taken.
     fn input_braced(&mut self) -> Result<Went, NoMemory>
-        ensures performs { PerformsOver C.Cells (λ c. with_outcome (taken in_file (group true 0 []) c) (looks_taken in_file looks_in_file (group true 0 []) c) (λ
-            toks d. word_behind toks ForInput d)) result self.new self.old }
+        ensures performs { PerformsOver C.Cells (λ c. with_outcome (taken in_file (group true 0 []) c) (looks_taken in_file looks_in_file (group true 0 [])
+            c) (λ toks d. word_behind toks ForInput d)) result self.new self.old }
         ensures same_cells { self.new.cells.ghost_name ≡ self.old.cells.ghost_name }
         ensures same_desk { self.new.desk.ghost_name ≡ self.old.desk.ghost_name }
     {

@@ -196,8 +196,8 @@ impl<'a, C: Cells> Feeder<'a, C> {
         left: i32,
         tok: &Tok,
     ) -> Result<Went, NoMemory>
-        ensures performs { PerformsOver C.Cells (λ c. if is_space tok.now then kept (reading.Relation compared left) [] c else relation_met (relation_of tok.now)
-            compared left c) result self.new self.old }
+        ensures performs { PerformsOver C.Cells (λ c. if is_space tok.now then kept (reading.Relation compared left) [] c else relation_met (relation_of
+            tok.now) compared left c) result self.new self.old }
         ensures same_cells { self.new.cells.ghost_name ≡ self.old.cells.ghost_name }
         ensures same_desk { self.new.desk.ghost_name ≡ self.old.desk.ghost_name }
     {

@@ -167,6 +167,7 @@ impl Readings {
     }
 
     /// Whether none is open. Takes no memory.
+    #[inline(always)]
     pub fn is_empty(&self) -> bool
         ensures none { result ≡ true → self.now ≡ [] }
         ensures some { result ≡ false → 0 < length self.now }
@@ -182,6 +183,7 @@ impl Readings {
     }
 
     /// Whether the end of a text may be passed, which it may not where a body is read. Takes no memory.
+    #[inline(always)]
     #[tactic(auto, using(crate::proofs::BodyLemmas::ends_pass_by))]
     pub fn ends_pass(&self) -> bool
         ensures { result ≡ ends_pass self.now }
@@ -239,6 +241,7 @@ impl Readings {
     }
 
     /// Whether the innermost reading wants its next token as it is. Takes no memory.
+    #[inline(always)]
     pub fn wants_plain(&self) -> bool
         ensures { result ≡ wants_plain self.now }
     {
@@ -249,6 +252,7 @@ impl Readings {
     }
 
     /// Whether the innermost reading is an `\expandafter` that has its second token expanded. Takes no memory.
+    #[inline(always)]
     pub fn is_held(&self) -> bool
         ensures { result ≡ is_held self.now }
     {

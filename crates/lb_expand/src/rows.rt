@@ -81,8 +81,8 @@ impl<'a, C: Cells> Feeder<'a, C> {
 
     // The next token goes on as it is.
     fn pass_next(&mut self) -> Result<Went, NoMemory>
-        ensures performs { PerformsOver C.Cells (λ c. token_taken c (λ tok d. looking (looks_of_meaning tok) (handed (meaning_now d tok) tok d.readings d))) result
-            self.new self.old }
+        ensures performs { PerformsOver C.Cells (λ c. token_taken c (λ tok d. looking (looks_of_meaning tok) (handed (meaning_now d tok) tok d.readings
+            d))) result self.new self.old }
         ensures same_cells { self.new.cells.ghost_name ≡ self.old.cells.ghost_name }
         ensures same_desk { self.new.desk.ghost_name ≡ self.old.desk.ghost_name }
     {

@@ -2,7 +2,8 @@
 ghost use Rattle.std.specs.Prelude.{◌≡◌, ◌∷◌, ◌++◌, [], Some};
 ghost use Rattle.lb_model_grammar.specs.Dimensions.{meant};
 ghost use Rattle.lb_model_grammar.specs.Scans.{want_of};
-ghost use Rattle.lb_model_expansion.specs.Expansion.{asked_of, font_size, looks_of_font, present_font, scan_as, scan_quantity, scan_token};
+ghost use Rattle.lb_model.specs.PresentFont.{looks_of_font};
+ghost use Rattle.lb_model_expansion.specs.Expansion.{asked_of, font_size, present_font, scan_as, scan_quantity, scan_token};
 ghost use Rattle.lb_model_expansion.specs.Steps.{looking};
 ghost use Rattle.lb_expand.specs.Feeding.{ClosesOver};
 ghost use Rattle.lb_expand.specs.Measures.{measured_as};

@@ -1,5 +1,5 @@
 //! Steps of expansion, and turns to the next token that is not expanded.
-ghost use Rattle.std.specs.Prelude.{◌≡◌, Some, None};
+ghost use Rattle.std.specs.Prelude.{◌≡◌, ◌≤◌, ◌^◌, ℕ, Some, None};
 ghost use Rattle.lb_base.specs.declared.fault.Kind.{Kind as AKind};
 ghost use Rattle.std.specs.Option.{option_map_or};
 ghost use Rattle.lb_model.specs.Arguments.{arguments, looks_arguments};
@@ -7,10 +7,10 @@ ghost use Rattle.lb_model.specs.Configs.{looks_of_meaning, meaning_now};
 ghost use Rattle.lb_model.specs.Expandables.{expandable};
 ghost use Rattle.lb_model.specs.Meanings.{is_control, refused_as, undefined};
 ghost use Rattle.lb_model_grammar.specs.Arguments.{substituted};
-ghost use Rattle.lb_model_expansion.specs.Expansion.{got_met, holding, macro_expanded, met_as, ran, resume, row_met, step, token_met};
+ghost use Rattle.lb_model_expansion.specs.Expansion.{got_met, holding, macro_expanded, met_as, ran, resume, resumed, row_met, step, token_met};
 ghost use Rattle.lb_model_expansion.specs.Steps.{looking, put};
 ghost use Rattle.lb_expand.specs.Feeding.{PerformsOver};
-ghost use Rattle.lb_expand.specs.Turns.{met};
+ghost use Rattle.lb_expand.specs.Turns.{met, met_behind, ran_from};
 ghost use Rattle.lb_expand.specs.Works.{Leads, Works};
 
 use crate::desk::Desk;
@@ -240,6 +240,7 @@ impl<'a, C: Cells> Feeder<'a, C> {
     /// Steps up to what ends them: a token that is not expanded where no reading is open, an answer, the end of the piece, or a fault.
     pub(crate) fn run(&mut self) -> Result<Went, NoMemory>
         ensures performs { PerformsOver C.Cells ran result self.new self.old }
+        ensures turns { (turns : ℕ) → 2 ^ 64 ≤ turns → PerformsOver C.Cells (ran_from turns) result self.new self.old }
         ensures same_cells { self.new.cells.ghost_name ≡ self.old.cells.ghost_name }
         ensures same_desk { self.new.desk.ghost_name ≡ self.old.desk.ghost_name }
     {
@@ -251,5 +252,31 @@ impl<'a, C: Cells> Feeder<'a, C> {
             }
         }
         Err(AllocError)
+    }
+
+    // A step that begins with a token that was taken.
+    fn step_from(&mut self, tok: Tok) -> Result<Went, NoMemory>
+        ensures performs { PerformsOver C.Cells (λ c. resumed (token_met tok c)) result self.new self.old }
+        ensures same_cells { self.new.cells.ghost_name ≡ self.old.cells.ghost_name }
+        ensures same_desk { self.new.desk.ghost_name ≡ self.old.desk.ghost_name }
+    {
+        let went = self.meet_token(tok)?;
+        match went {
+            Went::On => self.resume(),
+            went => Ok(went),
+        }
+    }
+
+    /// Steps up to what ends them, of which the first begins with a token that was taken.
+    pub(crate) fn run_from(&mut self, tok: Tok) -> Result<Went, NoMemory>
+        ensures performs { (turns : ℕ) → 2 ^ 64 ≤ turns → PerformsOver C.Cells (met_behind tok turns) result self.new self.old }
+        ensures same_cells { self.new.cells.ghost_name ≡ self.old.cells.ghost_name }
+        ensures same_desk { self.new.desk.ghost_name ≡ self.old.desk.ghost_name }
+    {
+        let went = self.step_from(tok)?;
+        match went {
+            Went::On => self.run(),
+            went => Ok(went),
+        }
     }
 }

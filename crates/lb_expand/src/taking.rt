@@ -33,6 +33,7 @@ pub enum Taken {
 
 /// The next token of a desk, which takes a step; where `passes` holds the ends of texts are passed, else none comes where the present text
 /// ends. The faults are `Invalid` and `StepLimit`.
+#[inline(always)]
 pub(crate) fn take<C: Cells>(
     cells: &mut C,
     desk: &mut Desk,
@@ -44,13 +45,14 @@ pub(crate) fn take<C: Cells>(
           asked tok;
       next = config p.world (C.meaning cells.new p) desk.new;
     }) }
-    ensures fault { IfErr result (λ e. MayStopAt e (λ k. (p : Setting) → C.agrees cells.new p → taken_by passes (config p.world (C.meaning cells.old p) desk.old)
-        ≡ record { got = GotFault k; next = config p.world (C.meaning cells.new p) desk.new })) }
+    ensures fault { IfErr result (λ e. MayStopAt e (λ k. (p : Setting) → C.agrees cells.new p → taken_by passes (config p.world (C.meaning cells.old p)
+        desk.old) ≡ record { got = GotFault k; next = config p.world (C.meaning cells.new p) desk.new })) }
     ensures notes { OnOk result ((p : Setting) → C.agrees cells.new p → C.notes cells.new ≡ option_map (noted_all (looks_by passes (config p.world (C.meaning
         cells.old p) desk.old))) (C.notes cells.old)) }
-    ensures notes_on_fault { IfErr result (λ e. MayStopAt e (λ k. (p : Setting) → C.agrees cells.new p → C.notes cells.new ≡ option_map (noted_all (looks_by passes (config
-        p.world (C.meaning cells.old p) desk.old))) (C.notes cells.old))) }
+    ensures notes_on_fault { IfErr result (λ e. MayStopAt e (λ k. (p : Setting) → C.agrees cells.new p → C.notes cells.new ≡ option_map (noted_all
+        (looks_by passes (config p.world (C.meaning cells.old p) desk.old))) (C.notes cells.old))) }
     ensures groups { desk.new.groups ≡ desk.old.groups }
+    ensures readings { desk.new.readings ≡ desk.old.readings }
 {
     match desk.source.next(desk.alloc, cells, passes, &mut desk.place) {
         Ok(None) => Ok(None),

@@ -72,8 +72,8 @@ impl<'a, C: Cells> Feeder<'a, C> {
 
     // Takes the second token of `\ifx`.
     fn compare_with(&mut self, first: &Tok) -> Result<Went, NoMemory>
-        ensures performs { PerformsOver C.Cells (λ d. token_taken d (λ second e. looking (looks_of_meaning first.now ++ looks_of_meaning second) (decided (if_true
-            (same_meaning (meaning_of_token e first.now) (meaning_of_token e second))) e))) result self.new self.old }
+        ensures performs { PerformsOver C.Cells (λ d. token_taken d (λ second e. looking (looks_of_meaning first.now ++ looks_of_meaning second) (decided
+            (if_true (same_meaning (meaning_of_token e first.now) (meaning_of_token e second))) e))) result self.new self.old }
         ensures same_cells { self.new.cells.ghost_name ≡ self.old.cells.ghost_name }
         ensures same_desk { self.new.desk.ghost_name ≡ self.old.desk.ghost_name }
     {

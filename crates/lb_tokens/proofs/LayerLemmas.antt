@@ -6,20 +6,21 @@ use Rattle.std.proofs.lemmas.List.{reverse-append, take_at, take_more, take_more
 use Rattle.lb_base.specs.declared.token.Category.{Category}
 use Rattle.lb_base.specs.declared.token.Tok.{Tok}
 use Rattle.lb_model.specs.declared.place.Got.{Got}
-use Rattle.lb_model.specs.declared.place.Got.TheVariants.{End as GotEnd}
+use Rattle.lb_model.specs.declared.place.Got.TheVariants.{End as GotEnd, Tok as GotTok}
 use Rattle.lb_model.specs.declared.place.Place.{Place}
 use Rattle.lb_model.specs.declared.reading.Read.{Read}
 use Rattle.lb_model.specs.declared.reading.Read.TheVariants as read
 use Rattle.lb_model.specs.Settings.{Notes}
-use Rattle.lb_model.specs.Sources.{FileText, Item, LineTaken, at_text_end, ended_early, from_text, got_of, line_examined, or_later, pending, source_examined, source_token, text_left, texts}
+use Rattle.lb_model.specs.Sources.{FileText, Item, LineTaken, at_text_end, ended_early, from_text, got_of, is_boundary, line_examined, or_later, pending, source_examined, source_token, text_left, texts}
 use Rattle.lb_model.specs.Sources.Item.{Pending, Text}
 use Rattle.lb_model.specs.Tokens.{noted_codes}
 use Rattle.lb_tokens.specs.declared.source.Layer.{Layer}
-use Rattle.lb_tokens.specs.Layers.{SourceGave, SourceGoesOn, behind_text, begins_pending, stands_at_text, texts_of}
+use Rattle.lb_tokens.specs.Layers.{SourceGave, SourceGoesOn, Stands, StandsNext, behind_text, begins_pending, stands_at_text, texts_of}
 use Rattle.lb_tokens.specs.declared.source.Next.TheVariants as next
+use Rattle.lb_tokens.specs.declared.source.Pended.TheVariants as pended
 use Rattle.lb_tokens.specs.Texts.{TextGave, taken_of}
 use Rattle.lb_tokens.proofs.TextLemmas.{ends_line, or_here}
-use Rattle.lb_tokens.proofs.Words.{noted-append}
+use Rattle.lb_tokens.proofs.Words.{none_noted, noted-append}
 
 -- ---- Counts
 
@@ -106,6 +107,41 @@ source_goes_on passes cats p0 p1 p2 s0 s1 s2 n0 n1 n2 a b = record { taken = a.t
 
 pub source_gave : (passes : Bool) (cats : ℕ → Category) (got : Got) (p0 p1 p2 : Option Place) (s0 s1 s2 : List Item) (n0 n1 n2 : Option Notes) → SourceGoesOn passes cats p0 s0 n0 p1 s1 n1 → SourceGave passes cats got p1 s1 n1 p2 s2 n2 → SourceGave passes cats got p0 s0 n0 p2 s2 n2
 source_gave passes cats got p0 p1 p2 s0 s1 s2 n0 n1 n2 a b = record { taken = a.taken ∙ b.taken; notes = b.notes ∙ a.notes }
+
+-- ---- Pending tokens
+
+-- one that is no boundary
+pub token_stands : (tok : Tok) (old new : List Tok) (source : List Item) → old ≡ tok ∷ new → is_boundary tok ≡ false → StandsNext (GotTok tok) (map Pending old ++ source) (map Pending new ++ source)
+token_stands tok old new source is plain passes cats place n =
+    let items : List Item = map Pending new ++ source in
+    let first : map Pending old ++ source ≡ Pending tok ∷ items = ap (λ l. map Pending l ++ source) is in
+    record {
+      taken = ap (source_token passes cats place) first
+          ∙ ap (λ b. if b then record { got = GotEnd; source = Pending tok ∷ items; place = place } else record { got = GotTok tok; source = items; place = place }) plain;
+      notes = sym (ap (λ l. option_map (noted_codes (source_examined passes cats l)) n) first ∙ none_noted n);
+    }
+
+-- and one that is, which stands again
+pub boundary_stands : (tok : Tok) (old mid new : List Tok) (source : List Item) → old ≡ tok ∷ mid → new ≡ tok ∷ mid → is_boundary tok ≡ true → StandsNext GotEnd (map Pending old ++ source) (map Pending new ++ source)
+boundary_stands tok old mid new source is again bars passes cats place n =
+    let items : List Item = map Pending mid ++ source in
+    let first : map Pending old ++ source ≡ Pending tok ∷ items = ap (λ l. map Pending l ++ source) is in
+    let last : map Pending new ++ source ≡ Pending tok ∷ items = ap (λ l. map Pending l ++ source) again in
+    record {
+      taken = ap (source_token passes cats place) first
+          ∙ ap (λ b. if b then record { got = GotEnd; source = Pending tok ∷ items; place = place } else record { got = GotTok tok; source = items; place = place }) bars
+          ∙ ap (λ l. record { got = GotEnd; source = l; place = place }) (sym last);
+      notes = sym (ap (λ l. option_map (noted_codes (source_examined passes cats l)) n) first ∙ none_noted n);
+    }
+
+-- what stands first, behind what was read before
+pub gives_pending : (passes : Bool) (cats : ℕ → Category) (p0 p1 : Option Place) (s0 s1 s2 : List Item) (n0 n1 : Option Notes) (tok : Tok) → SourceGoesOn passes cats p0 s0 n0 p1 s1 n1 → Stands (pended.Tok tok) s1 s2
+    → SourceGave passes cats (GotTok tok) p0 s0 n0 p1 s2 n1
+gives_pending passes cats p0 p1 s0 s1 s2 n0 n1 tok before first = source_gave passes cats (GotTok tok) p0 p1 p1 s0 s1 s2 n0 n1 n1 before (first passes cats p1 n1)
+
+pub gives_none : (passes : Bool) (cats : ℕ → Category) (p0 p1 : Option Place) (s0 s1 s2 : List Item) (n0 n1 : Option Notes) → SourceGoesOn passes cats p0 s0 n0 p1 s1 n1 → Stands pended.Boundary s1 s2
+    → SourceGave passes cats GotEnd p0 s0 n0 p1 s2 n1
+gives_none passes cats p0 p1 s0 s1 s2 n0 n1 before first = source_gave passes cats GotEnd p0 p1 p1 s0 s1 s2 n0 n1 n1 before (first passes cats p1 n1)
 
 -- ---- Tokens that are put
 

@@ -12,6 +12,8 @@ use Rattle.lb_model.specs.Tokens.{noted_codes}
 use Rattle.lb_tokens.specs.declared.source.Layer.{Layer}
 use Rattle.lb_tokens.specs.declared.source.Next.{Next}
 use Rattle.lb_tokens.specs.declared.source.Next.TheVariants as next
+use Rattle.lb_tokens.specs.declared.source.Pended.{Pended}
+use Rattle.lb_tokens.specs.declared.source.Pended.TheVariants as pended
 
 -- the texts, the innermost first, each with the tokens behind it
 abbrev pub texts_of : List Layer → List Item
@@ -39,6 +41,16 @@ stands_at_text n source = Unit {0}
 pub record SourceGave (passes : Bool) (cats : ℕ → Category) (got : Got) (place_old : Option Place) (old : List Item) (notes_old : Option Notes) (place_new : Option Place) (new : List Item) (notes_new : Option Notes) : Type 0 where
   pub taken : source_token passes cats place_old old ≡ record { got = got; source = new; place = place_new }
   pub notes : notes_new ≡ option_map (noted_codes (source_examined passes cats old)) notes_old
+
+-- what stands next in a source gave this, whatever else is read
+abbrev pub StandsNext : Got → List Item → List Item → Type 0
+StandsNext got old new = (passes : Bool) (cats : ℕ → Category) (place : Option Place) (n : Option Notes) → SourceGave passes cats got place old n place new n
+
+-- a pending token was taken, or a boundary stands first, or no token is pending
+abbrev pub Stands : Pended → List Item → List Item → Type 0
+Stands (pended.Tok tok) old new = StandsNext (GotTok tok) old new
+Stands pended.Boundary old new = StandsNext GotEnd old new
+Stands pended.Nothing old new = (new ≡ old) × (begins_pending new ≡ false)
 
 -- what is left of a source gives what the source gives
 pub record SourceGoesOn (passes : Bool) (cats : ℕ → Category) (place_old : Option Place) (old : List Item) (notes_old : Option Notes) (place_new : Option Place) (new : List Item) (notes_new : Option Notes) : Type 0 where

@@ -5,6 +5,7 @@ use lb_base::{Name, NoMemory};
 use lb_model::Place;
 
 /// Notes the place of a token. The name is kept where it is the same, so that a token costs no clone.
+#[inline(always)]
 pub fn set_place(place: &mut Option<Place>, file: &Name, line: u64) -> Result<(), NoMemory>
     ensures ok { OnOk result (place.new ≡ Some (record { file = file.now; line = line })) }
     ensures err { OnErr result (place.new ≡ place.old) }

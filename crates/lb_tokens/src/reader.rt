@@ -37,6 +37,7 @@ impl LineReader {
 
 /// The next token of a line, or its end where none is left. The fault is Invalid, at an invalid character; where there is a fault or no
 /// memory, the reader is as it was.
+#[inline(always)]
 pub fn next<C: Cells>(alloc: Global, reader: &mut LineReader, cats: &mut C) -> Result<Read, Stop>
     requires { reader.old.at ≤ length reader.old.line }
     ensures told { Told C.Cells cats.new cats.old }

@@ -5,13 +5,13 @@ ghost use Rattle.lb_base.specs.declared.fault.Kind.TheVariants.{DepthLimit as Th
 ghost use Rattle.lb_model.specs.declared.place.Got.TheVariants.{Fault as GotFault};
 ghost use Rattle.lb_model.specs.Configs.{asked};
 ghost use Rattle.lb_model.specs.Settings.{Setting};
-ghost use Rattle.lb_model.specs.Sources.{ended_early, pending, source_examined, source_token, texts};
+ghost use Rattle.lb_model.specs.Sources.{ended_early, is_boundary, pending, source_examined, source_token, texts};
 ghost use Rattle.lb_model.specs.Sources.Item.{Pending, Text as AText};
 ghost use Rattle.lb_model.specs.Stops.{MayStopAt};
 ghost use Rattle.lb_model.specs.Told.{Told};
 ghost use Rattle.lb_model.specs.Tokens.{categories, noted_codes};
 ghost use Rattle.lb_model_grammar.specs.Arguments.{substituted};
-ghost use Rattle.lb_tokens.specs.Layers.{Gave, SourceGave, behind_text, begins_pending, stands_at_text, texts_of};
+ghost use Rattle.lb_tokens.specs.Layers.{Gave, SourceGave, Stands, behind_text, begins_pending, stands_at_text, texts_of};
 
 use crate::stack::TokStack;
 use crate::text::Text;
@@ -64,6 +64,14 @@ enum Next {
     Nothing,
 }
 
+/// What is pending over the innermost text.
+#[derive(Drop)]
+enum Pended {
+    Tok(Tok),
+    Boundary,
+    Nothing,
+}
+
 impl Source {
     /// Nothing. Takes no memory.
     pub fn new(alloc: Global) -> Source
@@ -79,6 +87,7 @@ impl Source {
     /// The next token. Where `passes` holds the ends of texts are passed, and none comes at the end of the source; else none comes where
     /// the innermost text ends. A token of a text takes its place. The fault is `Invalid`, at an invalid character, which stays where it is
     /// and whose place is taken.
+    #[inline(always)]
     pub fn next<C: Cells>(
         &mut self,
         alloc: Global,
@@ -184,6 +193,7 @@ impl Source {
     }
 
     // The next token, with the codes that are looked at for it.
+    #[inline(always)]
     fn next_noted<C: Cells>(
         &mut self,
         alloc: Global,
@@ -196,8 +206,10 @@ impl Source {
         ensures fault { IfErr result (λ e. MayStopAt e (λ k. (p : Setting) → C.agrees cats.new p → SourceGave passes (categories p (C.meaning cats.old p)) (GotFault k) place.old self.old (C.notes cats.old) place.new self.new (C.notes cats.new))) }
     {
         'texts: loop {
-            if let Some(tok) = self.pop()? {
-                return Ok(Some(tok));
+            match self.pop()? {
+                Pended::Tok(tok) => return Ok(Some(tok)),
+                Pended::Boundary => return Ok(None),
+                Pended::Nothing => {}
             }
             match self.read(alloc, cats, place)? {
                 Next::Tok(tok) => return Ok(Some(tok)),
@@ -212,17 +224,27 @@ impl Source {
         }
     }
 
-    // The next pending token over the innermost text, which is taken. After want of memory nothing is left.
+    // The next pending token over the innermost text, which is taken unless it is a boundary. After want of memory
+    // nothing is left, or no boundary.
     #[inline(always)]
-    #[tactic(auto, using(crate::proofs::LayerLemmas::begins_text))]
-    fn pop(&mut self) -> Result<Option<Tok>, NoMemory>
-        ensures ok { IfOk result (λ tok. MatchOption tok ((self.new ≡ self.old) × (begins_pending self.new ≡ false)) (λ t. self.old ≡ Pending t ∷ self.new)) }
+    #[tactic(auto, using(crate::proofs::LayerLemmas::begins_text, crate::proofs::LayerLemmas::token_stands, crate::proofs::LayerLemmas::boundary_stands))]
+    fn pop(&mut self) -> Result<Pended, NoMemory>
+        ensures ok { IfOk result (λ pended. Stands pended self.old self.new) }
     {
         match self.stack.pop() {
-            Ok(None) => Ok(None),
+            Ok(None) => Ok(Pended::Nothing),
             Ok(Some(tok)) => {
+                if is_boundary(&tok) {
+                    return match self.stack.push(tok) {
+                        Ok(()) => Ok(Pended::Boundary),
+                        Err(error) => {
+                            self.count -= 1;
+                            Err(error)
+                        }
+                    };
+                }
                 self.count -= 1;
-                Ok(Some(tok))
+                Ok(Pended::Tok(tok))
             }
             Err(error) => {
                 self.layers.clear();
@@ -256,6 +278,17 @@ impl Source {
         ensures { self.new ≡ behind_text self.old }
     {
         close_last(&mut self.stack, &mut self.layers);
+    }
+}
+
+// Whether nothing is taken past a token until it is taken away.
+#[inline(always)]
+fn is_boundary(tok: &Tok) -> bool
+    ensures { is_boundary tok.now ≡ result }
+{
+    match tok {
+        Tok::Param(number) => *number == 0,
+        Tok::Char(_, _) | Tok::Word(_) | Tok::Active(_) => false,
     }
 }
 

@@ -70,6 +70,7 @@ impl Text {
 
     /// The next token of the text, or none where it ends before one. The fault is `Invalid`, at an invalid character, which stays where it
     /// is.
+    #[inline(always)]
     pub fn next<C: Cells>(&mut self, alloc: Global, cats: &mut C) -> Result<Option<Tok>, Stop>
         ensures told { Told C.Cells cats.new cats.old }
         ensures gave { IfOk result (λ tok. (p : Setting) → C.agrees cats.new p → TextGave (categories p (C.meaning cats.old p)) (read_of tok) self.old self.new (C.notes cats.old) (C.notes cats.new)) }
@@ -89,6 +90,7 @@ impl Text {
     }
 
     /// Takes the place of the text for that of a token. The name of a file is kept where it is the same, so that a token costs no clone.
+    #[inline(always)]
     pub fn place_at(&self, place: &mut Option<Place>) -> Result<(), NoMemory>
         ensures ok { OnOk result (place.new ≡ Some (record { file = self.now.file; line = self.now.line })) }
         ensures err { OnErr result (place.new ≡ place.old) }
@@ -116,6 +118,7 @@ impl Text {
     }
 
     // Goes on to the line after the present one, or answers false where there is none.
+    #[inline(never)]
     fn go_on(&mut self, alloc: Global) -> Result<bool, NoMemory>
         ensures next { IfOk result (λ there. behind_line self.old ≡ cond there (Some self.new) None) }
         ensures kept { IfOk result (λ there. there ≡ false → self.new ≡ self.old) }
