@@ -1,6 +1,6 @@
--- Lists of lines one behind another, and the faults of lines.
+-- Lists one behind another, the lines one by one, and the faults of lines.
 use Rattle.std.proofs.Common.{◌≡◌, ℕ, ◌+◌, ◌==◌, Bool, true, false, if◌then◌else◌, List, [], ◌∷◌, length, Result, Ok, Err, refl, sym, ap, ◌∙◌}
-use Rattle.std.proofs.lemmas.List.{append-nil, append_assoc}
+use Rattle.std.proofs.lemmas.List.{append_assoc}
 use Rattle.lb_base.specs.Answers.{Answers}
 use Rattle.lb_base.specs.declared.fault.Kind.{Kind}
 use Rattle.lb_base.specs.declared.fault.Kind.TheVariants.{DimenTooLarge}
@@ -8,9 +8,10 @@ use Rattle.lb_base.specs.declared.fault.Stop.{Stop}
 use Rattle.lb_base.specs.declared.fault.Stop.TheVariants.{At, Fault, Memory}
 use Rattle.lb_base.specs.declared.node.Node.{Node}
 use Rattle.lb_model_paper.specs.Breaks.{is_disc_at, line_items}
-use Rattle.lb_model_paper.specs.Lines.{is_of_size, joined, lines_from, lines_of, penalty_between, penalty_nodes, set_items, set_line, worse}
+use Rattle.lb_model_paper.specs.Lines.{is_of_size, joined, penalty_between, penalty_nodes, set_items, set_line, worse}
 use Rattle.lb_model_paper.specs.declared.paragraph.BreakEnd.{BreakEnd}
 use Rattle.lb_model_paper.specs.declared.paragraph.Shape.{Shape}
+use Rattle.lb_lines.specs.Apart.{alone, joined_of, lines_apart_from, lines_apart_of}
 use Rattle.lb_lines.specs.Cuts.{IsAddStop, so_far}
 
 last : (j k l : Kind) (c : Bool) → is_of_size l ≡ c → is_of_size k ≡ false → ((n : Kind) → worse j n ≡ (if is_of_size n then n else j)) → (if is_of_size l then l else j) ≡ worse j (if is_of_size l then l else k)
@@ -40,38 +41,34 @@ worse_by j k l false false e f = third j k l (is_of_size l) refl e f
 worse_assoc : (j k l : Kind) → worse (worse j k) l ≡ worse j (worse k l)
 worse_assoc j k l = worse_by j k l (is_of_size j) (is_of_size k) refl refl
 
-pub joined-assoc : (a b c : Result (List Node) Kind) → joined (joined a b) c ≡ joined a (joined b c)
-joined-assoc (Ok x) (Ok y) (Ok z) = ap (λ (ns : List Node). Ok ns) (append_assoc x y z)
-joined-assoc (Ok x) (Ok y) (Err l) = refl
-joined-assoc (Ok x) (Err k) (Ok z) = refl
-joined-assoc (Ok x) (Err k) (Err l) = refl
-joined-assoc (Err j) (Ok y) (Ok z) = refl
-joined-assoc (Err j) (Ok y) (Err l) = refl
-joined-assoc (Err j) (Err k) (Ok z) = refl
-joined-assoc (Err j) (Err k) (Err l) = ap (λ (m : Kind). Err m) (worse_assoc j k l)
+pub joined_of-assoc : {T : Type 0} (a b c : Result (List T) Kind) → joined_of (joined_of a b) c ≡ joined_of a (joined_of b c)
+joined_of-assoc {T} (Ok x) (Ok y) (Ok z) = ap (λ (ts : List T). Ok ts) (append_assoc x y z)
+joined_of-assoc (Ok x) (Ok y) (Err l) = refl
+joined_of-assoc (Ok x) (Err k) (Ok z) = refl
+joined_of-assoc (Ok x) (Err k) (Err l) = refl
+joined_of-assoc (Err j) (Ok y) (Ok z) = refl
+joined_of-assoc (Err j) (Ok y) (Err l) = refl
+joined_of-assoc (Err j) (Err k) (Ok z) = refl
+joined_of-assoc (Err j) (Err k) (Err l) = ap (λ (m : Kind). Err m) (worse_assoc j k l)
 
-nothing-joined : (a : Result (List Node) Kind) → joined (Ok []) a ≡ a
+nothing-joined : {T : Type 0} (a : Result (List T) Kind) → joined_of (Ok []) a ≡ a
 nothing-joined (Ok x) = refl
 nothing-joined (Err k) = refl
 
-joined-nothing : (a : Result (List Node) Kind) → joined a (Ok []) ≡ a
-joined-nothing (Ok x) = ap (λ (ns : List Node). Ok ns) (append-nil x)
-joined-nothing (Err k) = refl
-
 -- a line that is too large
-large-rest : (rest : Result (List Node) Kind) → joined (Err DimenTooLarge) rest ≡ Err DimenTooLarge
+large-rest : {T : Type 0} (rest : Result (List T) Kind) → joined_of (Err DimenTooLarge) rest ≡ Err DimenTooLarge
 large-rest (Ok x) = refl
 large-rest (Err k) = refl
 
-large-behind : (deep : Bool) (lines : List Node) → joined (so_far deep lines) (Err DimenTooLarge) ≡ Err DimenTooLarge
+large-behind : (deep : Bool) (lines : List (List Node)) → joined_of (so_far deep lines) (Err DimenTooLarge) ≡ Err DimenTooLarge
 large-behind true lines = refl
 large-behind false lines = refl
 
 -- ---- the loop over the lines
 
-pub lines-start : (shape : Shape) (nodes : List Node) (ends : List BreakEnd) (deep : Bool) (lines : List Node) → so_far deep lines ≡ Ok [] → joined (so_far deep lines) (lines_from shape nodes 0 ends) ≡ lines_of shape nodes ends
-unfolding lines_of
-lines-start shape nodes ends deep lines none = ap (λ (s : Result (List Node) Kind). joined s (lines_from shape nodes 0 ends)) none ∙ nothing-joined (lines_from shape nodes 0 ends)
+pub lines-start : (shape : Shape) (nodes : List Node) (ends : List BreakEnd) (deep : Bool) (lines : List (List Node)) → so_far deep lines ≡ Ok [] → joined_of (so_far deep lines) (lines_apart_from shape nodes 0 ends) ≡ lines_apart_of shape nodes ends
+unfolding lines_apart_of
+lines-start shape nodes ends deep lines none = ap (λ (s : Result (List (List Node)) Kind). joined_of s (lines_apart_from shape nodes 0 ends)) none ∙ nothing-joined (lines_apart_from shape nodes 0 ends)
 
 -- what is meant by the line from break i to an item
 abbrev pub line_meant : Shape → List Node → ℕ → ℕ → Result (List Node) Kind
@@ -81,31 +78,29 @@ line-is : (shape : Shape) (nodes : List Node) (i item left : ℕ) → joined (li
 unfolding set_line
 line-is shape nodes i item left = refl
 
-pub lines-more : (shape : Shape) (nodes : List Node) (i : ℕ) (end : BreakEnd) (rest ends : List BreakEnd) (whole so new meant : Result (List Node) Kind) (penalty : List Node) → ends ≡ end ∷ rest
-    → joined so (lines_from shape nodes i ends) ≡ whole → meant ≡ line_meant shape nodes i end.item → penalty ≡ penalty_nodes (penalty_between shape.rules (i == 0) (length rest) (is_disc_at nodes (end.item + 1)))
-    → new ≡ joined so (joined meant (Ok penalty)) → joined new (lines_from shape nodes (end.item + 1) rest) ≡ whole
+pub lines-more : (shape : Shape) (nodes : List Node) (i : ℕ) (end : BreakEnd) (rest ends : List BreakEnd) (whole so new : Result (List (List Node)) Kind) (meant : Result (List Node) Kind) (penalty : List Node) → ends ≡ end ∷ rest
+    → joined_of so (lines_apart_from shape nodes i ends) ≡ whole → meant ≡ line_meant shape nodes i end.item → penalty ≡ penalty_nodes (penalty_between shape.rules (i == 0) (length rest) (is_disc_at nodes (end.item + 1)))
+    → new ≡ joined_of so (alone (joined meant (Ok penalty))) → joined_of new (lines_apart_from shape nodes (end.item + 1) rest) ≡ whole
 lines-more shape nodes i end rest ends whole so new meant penalty next so_far_is meant_is penalty_is new_is =
-    let R : Result (List Node) Kind = lines_from shape nodes (end.item + 1) rest in
+    let R : Result (List (List Node)) Kind = lines_apart_from shape nodes (end.item + 1) rest in
+    let L : Result (List Node) Kind = set_line shape nodes i (end.item + 1) (length rest) in
     let line : joined meant (Ok penalty) ≡ set_line shape nodes i (end.item + 1) (length rest) =
     ap (λ (m : Result (List Node) Kind). joined m (Ok penalty)) meant_is ∙ ap (λ (ps : List Node). joined (line_meant shape nodes i end.item) (Ok ps)) penalty_is ∙ line-is shape nodes i end.item (length rest) in
-    ap (λ (n : Result (List Node) Kind). joined n R) (new_is ∙ ap (λ (l : Result (List Node) Kind). joined so l) line)
-    ∙ joined-assoc so (set_line shape nodes i (end.item + 1) (length rest)) R ∙ ap (λ (es : List BreakEnd). joined so (lines_from shape nodes i es)) (sym next) ∙ so_far_is
+    ap (λ (n : Result (List (List Node)) Kind). joined_of n R) (new_is ∙ ap (λ (l : Result (List Node) Kind). joined_of so (alone l)) line)
+    ∙ joined_of-assoc so (alone L) R ∙ ap (λ (es : List BreakEnd). joined_of so (lines_apart_from shape nodes i es)) (sym next) ∙ so_far_is
 
-pub lines-large : (shape : Shape) (nodes : List Node) (i : ℕ) (end : BreakEnd) (rest ends : List BreakEnd) (whole meant : Result (List Node) Kind) (deep : Bool) (lines : List Node) → ends ≡ end ∷ rest
-    → joined (so_far deep lines) (lines_from shape nodes i ends) ≡ whole → meant ≡ line_meant shape nodes i end.item → meant ≡ Err DimenTooLarge → whole ≡ Err DimenTooLarge
+pub lines-large : (shape : Shape) (nodes : List Node) (i : ℕ) (end : BreakEnd) (rest ends : List BreakEnd) (whole : Result (List (List Node)) Kind) (meant : Result (List Node) Kind) (deep : Bool) (lines : List (List Node)) → ends ≡ end ∷ rest
+    → joined_of (so_far deep lines) (lines_apart_from shape nodes i ends) ≡ whole → meant ≡ line_meant shape nodes i end.item → meant ≡ Err DimenTooLarge → whole ≡ Err DimenTooLarge
 lines-large shape nodes i end rest ends whole meant deep lines next so_far_is meant_is large =
-    let R : Result (List Node) Kind = lines_from shape nodes (end.item + 1) rest in
+    let R : Result (List (List Node)) Kind = lines_apart_from shape nodes (end.item + 1) rest in
     let P : List Node = penalty_nodes (penalty_between shape.rules (i == 0) (length rest) (is_disc_at nodes (end.item + 1))) in
     let line : set_line shape nodes i (end.item + 1) (length rest) ≡ Err DimenTooLarge =
     sym (line-is shape nodes i end.item (length rest)) ∙ ap (λ (m : Result (List Node) Kind). joined m (Ok P)) (sym meant_is ∙ large) in
-    sym so_far_is ∙ ap (λ (es : List BreakEnd). joined (so_far deep lines) (lines_from shape nodes i es)) next
-    ∙ ap (λ (l : Result (List Node) Kind). joined (so_far deep lines) (joined l R)) line ∙ ap (λ (r : Result (List Node) Kind). joined (so_far deep lines) r) (large-rest R) ∙ large-behind deep lines
+    sym so_far_is ∙ ap (λ (es : List BreakEnd). joined_of (so_far deep lines) (lines_apart_from shape nodes i es)) next
+    ∙ ap (λ (l : Result (List Node) Kind). joined_of (so_far deep lines) (joined_of (alone l) R)) line ∙ ap (λ (r : Result (List (List Node)) Kind). joined_of (so_far deep lines) r) (large-rest R) ∙ large-behind deep lines
 
 -- why the loop stops
-pub answers-stop : (whole meant : Result (List Node) Kind) (stop : Stop) → (meant ≡ Err DimenTooLarge → whole ≡ Err DimenTooLarge) → IsAddStop meant stop → Answers {T = List Node} whole (Err stop)
+pub answers-stop : (whole : Result (List (List Node)) Kind) (meant : Result (List Node) Kind) (stop : Stop) → (meant ≡ Err DimenTooLarge → whole ≡ Err DimenTooLarge) → IsAddStop meant stop → Answers {T = List (List Node)} whole (Err stop)
 answers-stop whole meant Memory large is = is
 answers-stop whole meant (Fault kind) large is = large is.1 ∙ ap (λ (k : Kind). Err k) (sym is.0)
 answers-stop whole meant (At fault) large is = is
-
-pub lines-end : (shape : Shape) (nodes : List Node) (i : ℕ) (ends : List BreakEnd) (whole so : Result (List Node) Kind) → ends ≡ [] → joined so (lines_from shape nodes i ends) ≡ whole → so ≡ whole
-lines-end shape nodes i ends whole so none so_far_is = sym (joined-nothing so) ∙ ap (λ (es : List BreakEnd). joined so (lines_from shape nodes i es)) (sym none) ∙ so_far_is

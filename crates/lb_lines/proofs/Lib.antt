@@ -1,3 +1,4 @@
+pub mod Apart
 pub mod Gluing
 pub mod Joins
 pub mod Penalties

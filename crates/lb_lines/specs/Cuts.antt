@@ -10,8 +10,8 @@ use Rattle.lb_model_paper.specs.Nodes.{shown}
 use Rattle.lb_model_paper.specs.declared.paragraph.Shape.{Shape}
 use Rattle.lb_lines.specs.declared.cutting.Taken.{Taken}
 
--- the lines so far, of which some were too deep or none
-abbrev pub so_far : Bool → List Node → Result (List Node) Kind
+-- the lines so far, one list a line, of which some were too deep or none
+abbrev pub so_far : Bool → List (List Node) → Result (List (List Node)) Kind
 so_far true lines = Err DepthLimit
 so_far false lines = Ok lines
 

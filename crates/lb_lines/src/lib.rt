@@ -12,5 +12,5 @@ mod setting;
 
 pub use glue::append_line;
 pub use lb_model_paper::paragraph::{BreakEnd, BreakList, BreakRules, EndList, LineRules, Shape};
-pub use paragraph::lines;
+pub use paragraph::{lines, lines_apart};
 pub use rising::are_ends;

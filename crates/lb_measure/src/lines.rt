@@ -59,8 +59,9 @@ impl<'a> Measured<'a> {
         self.places[j].penalty.is_some()
     }
 
-    /// The sums of the line from break `i` to break `j`.
-    fn sums(&self, i: usize, j: usize) -> LineSums
+    /// The sums of the line from break `i` to break `j`, in scaled points: of all that stands in its box,
+    /// the glue at both ends counted, and the discardables at its start not (TeXbook, chapter 14).
+    pub fn sums(&self, i: usize, j: usize) -> LineSums
         requires measured { IsMeasured self.now }
         requires i { i < j }
         requires j { j ≤ length self.now.list.now }
