@@ -9,7 +9,8 @@ use Rattle.lb_values.specs.declared.cell.Cell.TheVariants.{Counter}
 use Rattle.lb_model.specs.declared.world.World.{World}
 use Rattle.lb_model.specs.Settings.{Notes, State, noted, noted_all}
 use Rattle.lb_model.proofs.TakenLemmas.{noted-append}
-use Rattle.lb_model_aux.specs.Written.{counter_line, numbered}
+use Rattle.lb_model_aux.specs.Checkpoints.{numbered}
+use Rattle.lb_model_journal.specs.Written.{counter_line}
 use Rattle.lb_aux.specs.Texts.{counter_lines}
 
 -- one name more

@@ -6,7 +6,8 @@ use Rattle.lb_values.specs.declared.cell.Cell.{Cell}
 use Rattle.lb_model.specs.declared.cells.Cells.{Ghosts}
 use Rattle.lb_model.specs.declared.world.World.{World}
 use Rattle.lb_model.specs.Settings.{Setting, State, noted_all}
-use Rattle.lb_model_aux.specs.Written.{counter_line, numbered}
+use Rattle.lb_model_aux.specs.Checkpoints.{numbered}
+use Rattle.lb_model_journal.specs.Written.{counter_line}
 
 -- the lines of counters, with the numbers that a state has
 abbrev pub counter_lines : World → State → List (List ℕ) → List ℕ

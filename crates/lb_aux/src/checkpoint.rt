@@ -5,7 +5,8 @@ ghost use Rattle.std.specs.Option.{option_map};
 ghost use Rattle.lb_values.specs.declared.cell.Cell.TheVariants.{Counter};
 ghost use Rattle.lb_model.specs.Settings.{Setting, noted, noted_all};
 ghost use Rattle.lb_model.specs.Told.{Told};
-ghost use Rattle.lb_model_aux.specs.Written.{braced, checkpoint_in, counter_line, looks_of_checkpoint};
+ghost use Rattle.lb_model_aux.specs.Checkpoints.{checkpoint_in, looks_of_checkpoint};
+ghost use Rattle.lb_model_journal.specs.Written.{braced, counter_line};
 ghost use Rattle.lb_aux.specs.Texts.{Shows, counter_lines, held_line};
 
 use crate::labels::push_group;

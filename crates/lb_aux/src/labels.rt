@@ -1,10 +1,10 @@
 //! The lines of labels and of entries of contents.
 ghost use Rattle.std.specs.Prelude.{◌≡◌, ◌++◌, IfOk, OnOk};
-ghost use Rattle.lb_model_aux.specs.Written.{braced, contents_entry, contents_line, label_line, written};
+ghost use Rattle.lb_model_journal.specs.Written.{braced, contents_entry, contents_line, label_line, written};
 
 use crate::tokens::push_written;
 use lb_base::{Bytes, Name, NoMemory, Tok};
-use lb_model_aux::Entry3;
+use lb_model_journal::Entry3;
 use lb_values::LabelPair;
 use std::alloc::Global;
 

@@ -1,15 +1,14 @@
 //! The lines of a log.
 ghost use Rattle.std.specs.Prelude.{◌≡◌, ◌++◌, ◌∷◌, [], IfOk};
 ghost use Rattle.lb_model_paper.specs.Texts.{pages_word};
-ghost use Rattle.lb_model_aux.specs.declared.event.Event.TheVariants as events;
-ghost use Rattle.lb_model_aux.specs.declared.event.Event.TheVariants.{MissingCharacter, MultipleLabel, Output, Overfull, Typeout, Underfull};
-ghost use Rattle.lb_model_aux.specs.LogLines.{log_line, place_text};
+ghost use Rattle.lb_model_journal.specs.declared.event.Event.TheVariants as events;
+ghost use Rattle.lb_model_journal.specs.declared.event.Event.TheVariants.{MissingCharacter, MultipleLabel, Output, Overfull, Typeout, Underfull};
+ghost use Rattle.lb_model_journal.specs.LogLines.{log_line, place_text};
 
 use crate::tokens::push_written;
 use itoa::Buffer;
 use lb_base::{Bytes, Fault, Name, NoMemory, TokList};
-use lb_model::Place;
-use lb_model_aux::Event;
+use lb_model_journal::Event;
 use lb_model_grammar::Quantity;
 use lb_print::quantity_text;
 use std::alloc::Global;
@@ -35,22 +34,22 @@ fn with_place(mut text: Bytes, file: &[u8], line: u64) -> Result<Bytes, NoMemory
     Ok(text)
 }
 
-fn overfull(alloc: Global, missing: i32, place: &Place) -> Result<Bytes, NoMemory>
-    ensures { IfOk result (λ text. text ≡ log_line (Overfull missing place.now)) }
+fn overfull(alloc: Global, missing: i32, file: &Name, line: u64) -> Result<Bytes, NoMemory>
+    ensures { IfOk result (λ text. text ≡ log_line (Overfull missing file.now line)) }
 {
     let mut text = Bytes::from_slice(alloc, b"Overfull ")?;
     if let Some(width) = quantity_text(alloc, Quantity::Dimen(missing))? {
         text.extend_from_slice(width.as_slice())?;
     }
     text.extend_from_slice(b" at ")?;
-    with_place(text, place.file.as_slice(), place.line)
+    with_place(text, file.as_slice(), line)
 }
 
-fn underfull(alloc: Global, place: &Place) -> Result<Bytes, NoMemory>
-    ensures { IfOk result (λ text. text ≡ log_line (Underfull place.now)) }
+fn underfull(alloc: Global, file: &Name, line: u64) -> Result<Bytes, NoMemory>
+    ensures { IfOk result (λ text. text ≡ log_line (Underfull file.now line)) }
 {
     let text = Bytes::from_slice(alloc, b"Underfull at ")?;
-    with_place(text, place.file.as_slice(), place.line)
+    with_place(text, file.as_slice(), line)
 }
 
 fn missing_character(alloc: Global, code: u8, font: &Name) -> Result<Bytes, NoMemory>
@@ -122,8 +121,12 @@ pub fn log_line(alloc: Global, event: &Event) -> Result<Bytes, NoMemory>
             Buffer::new().format(*number).as_bytes(),
             b"]\n",
         ),
-        Event::Overfull(missing, place) => overfull(alloc, *missing, place),
-        Event::Underfull(place) => underfull(alloc, place),
+        Event::Overfull {
+            missing,
+            file,
+            line,
+        } => overfull(alloc, *missing, file, *line),
+        Event::Underfull { file, line } => underfull(alloc, file, *line),
         Event::MissingCharacter(code, font) => missing_character(alloc, *code, font),
         Event::UndefinedReference(key) => between(
             alloc,

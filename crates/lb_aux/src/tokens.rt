@@ -1,6 +1,6 @@
 //! Token lists as they are written.
 ghost use Rattle.std.specs.Prelude.{◌≡◌, ◌++◌, IfOk, OnOk};
-ghost use Rattle.lb_model_aux.specs.Written.{is_symbol, written, written_name, written_token};
+ghost use Rattle.lb_model_journal.specs.Written.{is_symbol, written, written_name, written_token};
 
 use lb_base::{Bytes, Category, NoMemory, Tok};
 use std::alloc::{AllocError, Global};

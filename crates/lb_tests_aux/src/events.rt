@@ -5,8 +5,7 @@ use crate::tokens::tokens;
 use crate::words::{byte, bytes, line, name, number, pages};
 use lb_aux::log_line;
 use lb_base::{Fault, Kind};
-use lb_model::Place;
-use lb_model_aux::Event;
+use lb_model_journal::Event;
 use std::alloc::Global;
 
 /// `log EVENT WORD..`.
@@ -21,7 +20,11 @@ fn event(alloc: Global, words: &[&str]) -> Result<Event, Stop> {
         [kind, what] => with_one(alloc, kind, what),
         [kind, first, second] => with_two(alloc, kind, first, second),
         ["overfull", missing, file, at] => {
-            Ok(Event::Overfull(number(missing)?, place(alloc, file, at)?))
+            Ok(Event::Overfull {
+                missing: number(missing)?,
+                file: name(alloc, file)?,
+                line: line(at)?,
+            })
         }
         ["output", main, count, length] => Ok(Event::Output {
             main: name(alloc, main)?,
@@ -47,7 +50,10 @@ fn with_one(alloc: Global, kind: &str, what: &str) -> Result<Event, Stop> {
 
 fn with_two(alloc: Global, kind: &str, first: &str, second: &str) -> Result<Event, Stop> {
     match kind {
-        "underfull" => Ok(Event::Underfull(place(alloc, first, second)?)),
+        "underfull" => Ok(Event::Underfull {
+            file: name(alloc, first)?,
+            line: line(second)?,
+        }),
         "missing" => Ok(Event::MissingCharacter(byte(first)?, name(alloc, second)?)),
         "fault" => Ok(Event::Fault(Fault {
             kind: Kind::Undefined,
@@ -56,11 +62,4 @@ fn with_two(alloc: Global, kind: &str, first: &str, second: &str) -> Result<Even
         })),
         _ => Err(Stop::Command),
     }
-}
-
-fn place(alloc: Global, file: &str, at: &str) -> Result<Place, Stop> {
-    Ok(Place {
-        file: name(alloc, file)?,
-        line: line(at)?,
-    })
 }

@@ -4,7 +4,7 @@ use crate::stop::Stop;
 use crate::tokens::tokens;
 use crate::words::{bytes, name};
 use lb_aux::{contents_line, label_line};
-use lb_model_aux::Entry3;
+use lb_model_journal::Entry3;
 use lb_values::LabelPair;
 use std::alloc::Global;
 

@@ -1,7 +1,7 @@
 use Rattle.std.proofs.Common.{◌≡◌, ◌∙◌, ◌++◌, ◌∷◌, [], ap, codes, of_z, to_z, w32}
 use Rattle.std.proofs.lemmas.Int.{to_z-of_z}
 use Rattle.std.specs.Fmt.{signed_decimal}
-use Rattle.lb_model_aux.specs.Written.{braced}
+use Rattle.lb_model_journal.specs.Written.{braced}
 use Rattle.lb_aux.proofs.Appends.{four}
 use Rattle.lb_aux.proofs.checkpoint.push_counter.Goals as goal
 

@@ -2,7 +2,8 @@ use Rattle.std.proofs.Common.{◌∙◌, ◌++◌, ap, sym, append_assoc, take}
 use Rattle.std.specs.Option.{option_map}
 use Rattle.lb_values.specs.declared.cell.Cell.TheVariants.{Counter}
 use Rattle.lb_model.specs.Settings.{noted}
-use Rattle.lb_model_aux.specs.Written.{counter_line, numbered}
+use Rattle.lb_model_aux.specs.Checkpoints.{numbered}
+use Rattle.lb_model_journal.specs.Written.{counter_line}
 use Rattle.lb_aux.specs.Texts.{counter_lines}
 use Rattle.lb_aux.proofs.Counters.{lines-more, notes-more}
 use Rattle.lb_aux.proofs.checkpoint.push_counters.Goals as goal

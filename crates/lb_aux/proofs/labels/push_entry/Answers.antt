@@ -1,5 +1,5 @@
 use Rattle.std.proofs.Common.{◌∙◌, ◌++◌, ◌∷◌, [], ap, codes}
-use Rattle.lb_model_aux.specs.Written.{braced, written}
+use Rattle.lb_model_journal.specs.Written.{braced, written}
 use Rattle.lb_aux.proofs.Appends.{five}
 use Rattle.lb_aux.proofs.labels.push_entry.Goals as goal
 

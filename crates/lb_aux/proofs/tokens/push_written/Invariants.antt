@@ -1,5 +1,5 @@
 use Rattle.std.proofs.Common.{◌≡◌, ◌++◌, take}
-use Rattle.lb_model_aux.specs.Written.{written}
+use Rattle.lb_model_journal.specs.Written.{written}
 use Rattle.lb_aux.proofs.tokens.push_written.Given as goal
 
 abbrev pub invariant-loop-tok : goal.invariant-loop-tok
