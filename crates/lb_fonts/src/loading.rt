@@ -36,7 +36,11 @@ pub fn load<C: Cells>(alloc: Global, cells: &mut C, name: &FontName) -> Result<F
 }
 
 // The name of a font's file.
-fn file_name<C: Cells>(alloc: Global, cells: &mut C, name: &FontName) -> Result<Name, NoMemory>
+pub(crate) fn file_name<C: Cells>(
+    alloc: Global,
+    cells: &mut C,
+    name: &FontName,
+) -> Result<Name, NoMemory>
     ensures told { Told C.Cells cells.new cells.old }
     ensures value { IfOk result (λ file. (p : Setting) → C.agrees cells.new p → file_of p.world (C.meaning cells.old p).now name.now ≡ file) }
     ensures notes { OnOk result (C.notes cells.new ≡ option_map (noted Prefix) (C.notes cells.old)) }
@@ -58,7 +62,12 @@ fn joined(alloc: Global, prefix: &[u8], name: &[u8]) -> Result<Name, NoMemory>
 
 // The font of a file's bytes, under its name and at its size.
 #[tactic(auto, unfolding(lb_model_paper::specs::FoundFonts::font_found))]
-fn font_from(alloc: Global, bytes: &[u8], name: &FontName, file: Name) -> Result<Font, Stop>
+pub(crate) fn font_from(
+    alloc: Global,
+    bytes: &[u8],
+    name: &FontName,
+    file: Name,
+) -> Result<Font, Stop>
     requires low { pos 0 <ℤ name.now.size }
     requires high { name.now.size <ℤ pos 134217728 }
     requires short { length name.now.name ≤ 255 }
