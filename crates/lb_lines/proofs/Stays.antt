@@ -13,7 +13,7 @@ use Rattle.lb_model_paper.specs.Lines.{moved_in, moved_of, moving, staying, stay
 use Rattle.lb_model_paper.specs.Nodes.{shown, unbroken_parts, unbroken_parts_in}
 use Rattle.lb_nodes.specs.Laws.{HasNoDiscretionary}
 use Rattle.lb_nodes.proofs.ShownLaws.{shown-itself, shown-none_left}
-use Rattle.lb_nodes.proofs.ShownLists.{shown-disc, shown-nil, shown-other}
+use Rattle.lb_model_paper.proofs.ShownLists.{shown-disc, shown-nil, shown-other}
 
 -- ---- kinds of nodes
 

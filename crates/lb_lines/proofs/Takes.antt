@@ -11,7 +11,7 @@ use Rattle.lb_model_paper.specs.Nodes.{shown, unbroken_parts, unbroken_parts_in}
 use Rattle.lb_model_paper.specs.declared.paragraph.Shape.{Shape}
 use Rattle.lb_measure.proofs.Measures.{parts_at_is}
 use Rattle.lb_nodes.proofs.ShownLaws.{shown-joined}
-use Rattle.lb_nodes.proofs.ShownLists.{shown-nil, shown-other}
+use Rattle.lb_model_paper.proofs.ShownLists.{shown-nil, shown-other}
 use Rattle.lb_lines.specs.Cuts.{IsSkipped}
 
 drop_none : (n : ℕ) → ◌≡◌ {A = List Node} (drop n []) []

@@ -18,7 +18,7 @@ use Rattle.lb_measure.specs.Amounts.{AreNear, IsNear, nothing}
 use Rattle.lb_measure.specs.Measures.{AreLeads, ArePlaces, IsPlace, blank, lead_at, leading, place_at}
 use Rattle.lb_measure.specs.declared.places.Place.{Place}
 use Rattle.lb_measure.proofs.Sums.{sums_of-nil}
-use Rattle.lb_nodes.proofs.ShownLists.{shown-nil}
+use Rattle.lb_model_paper.proofs.ShownLists.{shown-nil}
 
 -- ---- the discretionary at a break
 

@@ -3,7 +3,7 @@ use Rattle.std.proofs.Common.{◌≡◌, ℕ, zero, suc, ◌<◌, ◌≤◌, Lis
 use Rattle.std.proofs.lemmas.List.{append-nil, append_assoc}
 use Rattle.lb_base.specs.declared.node.Node.{Node}
 use Rattle.lb_model_paper.specs.Nodes.{shown, unbroken_parts, weight_of}
-use Rattle.lb_nodes.proofs.ShownLists.{list_weight, list_weight-cons, list_weight-append, shown-nil, shown-disc, shown-other, weight_of-disc, weight_of-other}
+use Rattle.lb_model_paper.proofs.ShownLists.{list_weight, list_weight-cons, list_weight-append, shown-nil, shown-disc, shown-other, weight_of-disc, weight_of-other}
 
 some_weight : (node : Node) (o : Option (List Node)) → unbroken_parts node ≡ o → 0 < weight_of node
 some_weight node None is = omega (arith, weight_of-other node is)

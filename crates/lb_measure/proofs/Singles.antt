@@ -17,7 +17,6 @@ use Rattle.lb_model_paper.specs.Nodes.{along, given, same_order, size_in, size_o
 use Rattle.lb_model_paper.specs.declared.paragraph.LineSums.{LineSums}
 use Rattle.lb_measure.specs.Amounts.{AreNear, AreOfGlue, IsNear}
 use Rattle.lb_measure.proofs.Sums.{held, none_plus, plus_none, sums-same}
-use Rattle.lb_nodes.specs.Bounds.{IsSumOfThree}
 
 -- what a node adds to each sum
 abbrev pub amounts_of : Node → LineSums
@@ -97,9 +96,6 @@ no_shrink : (node : Node) → ((glue : GlueSize) → node ≡ made.Glue glue →
 unfolding any_shrink
 no_shrink node other = no_shrink_in node (out-Node node) refl other
 
-near_three : (z : ℤ) → IsSumOfThree z → IsNear 1 z
-near_three z three = record { low = omega (arith, ints, three.low); high = omega (arith, ints, three.high) }
-
 near_none : IsNear 1 (pos 0)
 near_none = record { low = omega (arith, ints); high = omega (arith, ints) }
 
@@ -108,11 +104,10 @@ pub record IsSingle (node : Node) (sums : LineSums) : Type 0 where
   pub near : AreNear 1 sums
 
 -- a node that has a width alone, as the code holds it
-pub sums_of-other : (node : Node) (width : ℤ) → ((glue : GlueSize) → node ≡ made.Glue glue → ⊥) → width ≡ along Horizontal node → IsSumOfThree width
+pub sums_of-other : (node : Node) (width : ℤ) → ((glue : GlueSize) → node ≡ made.Glue glue → ⊥) → width ≡ along Horizontal node → IsNear 1 width
     → IsSingle node (record { width = to_z w64 (of_z w64 width); finite = pos 0; fil = pos 0; fill = pos 0; filll = pos 0; shrink = pos 0 })
-sums_of-other node width other is three =
-    let near : IsNear 1 width = near_three width three in
-    let same : to_z w64 (of_z w64 width) ≡ width = held width (record { low = omega (arith, ints, three.low); high = omega (arith, ints, three.high) }) in
+sums_of-other node width other is near =
+    let same : to_z w64 (of_z w64 width) ≡ width = held width (record { low = omega (arith, ints, near.low); high = omega (arith, ints, near.high) }) in
     let P : ℤ → Type 0 = λ z. IsNear 1 z in
     record {
       value = sums-same _ (amounts_of node) (same ∙ is) (sym (no_stretch node Finite other)) (sym (no_stretch node Fil other)) (sym (no_stretch node Fill other)) (sym (no_stretch node Filll other)) (sym (no_shrink node other)) ∙ sym (sums_of-one node);

@@ -1,12 +1,12 @@
 //! Sums over lists of nodes. Lengths are in scaled points.
 ghost use Rattle.std.specs.Prelude.{◌≡◌, ◌∷◌, [], ◌+◌, ◌+ℤ◌, ◌-ℤ◌, ℕ, pos, if◌then◌else◌};
 ghost use Rattle.lb_model_paper.specs.Breaks.{sums_of};
-ghost use Rattle.lb_model_paper.specs.Nodes.{same_order};
+ghost use Rattle.lb_base.specs.declared.node.Axis.TheVariants.{Horizontal};
+ghost use Rattle.lb_model_paper.specs.Nodes.{along, same_order};
 ghost use Rattle.lb_measure.specs.Amounts.{added, AreNear, AreOfGlue, IsNear, less, nothing};
 
-use lb_base::{Axis, Glue, Node, Order};
+use lb_base::{Glue, Node, Order};
 use lb_model_paper::paragraph::LineSums;
-use lb_nodes::sizes::along;
 
 /// The sums of an empty list.
 pub fn nothing() -> LineSums
@@ -51,6 +51,23 @@ pub fn glue_sums(glue: &Glue) -> LineSums
     }
 }
 
+/// The room that a node takes along a line.
+#[tactic(auto, unfolding(lb_model_paper::specs::Nodes::along, lb_model_paper::specs::Nodes::size_of, lb_model_paper::specs::Nodes::space_of))]
+fn along(node: &Node) -> i64
+    ensures room { result ≡ along Horizontal node.now }
+    ensures near { IsNear 1 result }
+{
+    match node {
+        Node::Char { metrics, .. } => i64::from(metrics.width),
+        Node::Lig(ligature) => i64::from(ligature.get().metrics.width),
+        Node::Rule(size) => i64::from(size.width.unwrap_or(0)),
+        Node::Boxed(boxed) => i64::from(boxed.get().width),
+        Node::Kern { width, .. } => i64::from(*width),
+        Node::Glue(glue) => i64::from(glue.width),
+        _ => 0,
+    }
+}
+
 /// The sums of a list of a node alone, which is no discretionary.
 pub fn node_sums(node: &Node) -> LineSums
     ensures value { result ≡ sums_of (node.now ∷ []) }
@@ -59,7 +76,7 @@ pub fn node_sums(node: &Node) -> LineSums
     match node {
         Node::Glue(glue) => glue_sums(glue),
         _ => LineSums {
-            width: along(Axis::Horizontal, node),
+            width: along(node),
             finite: 0,
             fil: 0,
             fill: 0,

@@ -7,6 +7,5 @@ pub mod Plans
 pub mod Products
 pub mod Shifting
 pub mod ShownLaws
-pub mod ShownLists
 pub mod Totalling
 pub mod Walks

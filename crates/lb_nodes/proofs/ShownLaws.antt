@@ -7,7 +7,7 @@ use Rattle.lb_base.specs.declared.node.Node as made
 use Rattle.lb_base.specs.declared.node.Node.{Node}
 use Rattle.lb_model_paper.specs.Nodes.{shown, unbroken_parts}
 use Rattle.lb_nodes.specs.Laws.{HasNoDiscretionary}
-use Rattle.lb_nodes.proofs.ShownLists.{list_weight, list_weight-append, list_weight-cons, shown-disc, shown-nil, shown-other, unbroken_parts-disc, weight_of-disc, weight_of-other}
+use Rattle.lb_model_paper.proofs.ShownLists.{list_weight, list_weight-append, list_weight-cons, shown-disc, shown-nil, shown-other, unbroken_parts-disc, weight_of-disc, weight_of-other}
 
 -- the weight of a list without its first node, or with the parts of that in its place
 lighter-disc : (node : Node) (parts nodes : List Node) (n : ℕ) → unbroken_parts node ≡ Some parts → list_weight (node ∷ nodes) ≤ suc n → list_weight (parts ++ nodes) ≤ n

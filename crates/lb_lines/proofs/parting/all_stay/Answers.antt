@@ -1,4 +1,4 @@
-use Rattle.lb_nodes.proofs.ShownLists.{unbroken_parts-other}
+use Rattle.lb_model_paper.proofs.ShownLists.{unbroken_parts-other}
 use Rattle.lb_lines.proofs.Stays.{all_stay-end, moved-turn, none_moves-end, stay-turn}
 use Rattle.lb_lines.proofs.parting.all_stay.Goals as goal
 

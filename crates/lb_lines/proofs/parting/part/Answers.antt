@@ -1,7 +1,7 @@
 use Rattle.std.proofs.Common.{◌≡◌, ◌++◌, ◌∷◌, [], List, reverse, sym, ap, ◌∙◌}
 use Rattle.lb_base.specs.declared.node.Discretionary.{Discretionary, out-Discretionary}
 use Rattle.lb_base.specs.declared.node.Node.{Node}
-use Rattle.lb_nodes.proofs.ShownLists.{list_weight-turn_other, unbroken_parts-disc, unbroken_parts-other}
+use Rattle.lb_model_paper.proofs.ShownLists.{list_weight-turn_other, unbroken_parts-disc, unbroken_parts-other}
 use Rattle.lb_lines.proofs.Stays.{moved_of-adjust, moved_of-ins, parted-disc, parted-end, parted-moves, parted-stays, stays-adjust, stays-ins, unbroken-adjust, unbroken-ins}
 use Rattle.lb_lines.proofs.parting.part.Goals as goal
 

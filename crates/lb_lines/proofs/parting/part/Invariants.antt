@@ -1,7 +1,7 @@
 use Rattle.std.proofs.Common.{◌≡◌, ◌++◌, reverse}
 use Rattle.lb_model_paper.specs.Lines.{moving, staying}
 use Rattle.lb_model_paper.specs.Nodes.{shown}
-use Rattle.lb_nodes.proofs.ShownLists.{list_weight}
+use Rattle.lb_model_paper.proofs.ShownLists.{list_weight}
 use Rattle.lb_lines.proofs.parting.part.Given as goal
 
 abbrev pub invariant-loop-node : goal.invariant-loop-node

@@ -1,6 +1,6 @@
 use Rattle.lb_model_paper.specs.Nodes.{shown}
 use Rattle.lb_nodes.proofs.ShownLaws.{shown-Disc, shown-itself, shown-joined, shown-none_left}
-use Rattle.lb_nodes.proofs.ShownLists.{shown-nil, shown-other}
+use Rattle.lb_model_paper.proofs.ShownLists.{shown-nil, shown-other}
 use Rattle.lb_nodes.proofs.laws.shown_lists.Goals as goal
 
 pub returns-clause-nothing : goal.returns-clause-nothing

@@ -1,4 +1,4 @@
-use Rattle.lb_nodes.proofs.ShownLists.{is_shown-all, is_shown-turn, unbroken_parts-other}
+use Rattle.lb_model_paper.proofs.ShownLists.{is_shown-all, is_shown-turn, unbroken_parts-other}
 use Rattle.lb_nodes.proofs.showing.is_shown.Goals as goal
 
 pub loop-node-preserved : goal.loop-node-preserved

@@ -1,7 +1,7 @@
 use Rattle.std.proofs.Common.{◌≡◌, ◌++◌, List, reverse, ap, ◌∙◌}
 use Rattle.lb_base.specs.declared.node.Discretionary.{Discretionary, out-Discretionary}
 use Rattle.lb_base.specs.declared.node.Node.{Node}
-use Rattle.lb_nodes.proofs.ShownLists.{list_weight-turn_other, shown-end, shown-turn_disc, shown-turn_other, unbroken_parts-disc, unbroken_parts-other}
+use Rattle.lb_model_paper.proofs.ShownLists.{list_weight-turn_other, shown-end, shown-turn_disc, shown-turn_other, unbroken_parts-disc, unbroken_parts-other}
 use Rattle.lb_nodes.proofs.showing.shown.Goals as goal
 
 pub loop-node-preserved-in-Continue-branch-2 : goal.loop-node-preserved-in-Continue-branch-2

@@ -9,7 +9,7 @@ use Rattle.lb_measure.specs.Amounts.{added}
 use Rattle.lb_measure.proofs.Counting.{count_of-disc, count_of-other, count_of_disc_is, items_in-below, items_in-drop, items_in-end}
 use Rattle.lb_measure.proofs.Shown.{shown_one-disc, shown_one-other}
 use Rattle.lb_measure.proofs.Sums.{added-assoc, added-nothing, shown_sums-more, sums_of-nil}
-use Rattle.lb_nodes.proofs.ShownLists.{shown-nil, unbroken_parts-disc, unbroken_parts-other}
+use Rattle.lb_model_paper.proofs.ShownLists.{shown-nil, unbroken_parts-disc, unbroken_parts-other}
 use Rattle.lb_measure.proofs.summing.Summing.+summing.Goals as goal
 
 pub add-add_all-requires : goal.add-add_all-requires
