@@ -23,3 +23,4 @@ mod tests;
 pub use desk::Desk;
 pub use feeder::Feeder;
 pub use lb_model_grammar::{Quantity, ScanKind, Scanned};
+pub use taking::sense_of;

@@ -89,7 +89,7 @@ pub(crate) fn meaning_of<C: Cells>(cells: &mut C, tok: &Tok) -> Result<Option<Me
 }
 
 /// What a token means: a character means itself.
-pub(crate) fn sense_of<C: Cells>(cells: &mut C, tok: &Tok) -> Result<Option<Meaning>, NoMemory>
+pub fn sense_of<C: Cells>(cells: &mut C, tok: &Tok) -> Result<Option<Meaning>, NoMemory>
     ensures told { Told C.Cells cells.new cells.old }
     ensures value { IfOk result (λ m. (p : Setting) → C.agrees cells.new p → token_meaning p.world (C.meaning cells.old p).now tok.now ≡ m) }
     ensures notes { OnOk result (C.notes cells.new ≡ option_map (noted_all (looks_of_meaning tok.now)) (C.notes cells.old)) }
