@@ -8,8 +8,8 @@ ghost use Rattle.lb_model_journal.specs.LogLines.{log_line, place_text};
 use crate::tokens::push_written;
 use itoa::Buffer;
 use lb_base::{Bytes, Fault, Name, NoMemory, TokList};
-use lb_model_journal::Event;
 use lb_model_grammar::Quantity;
+use lb_model_journal::Event;
 use lb_print::quantity_text;
 use std::alloc::Global;
 
