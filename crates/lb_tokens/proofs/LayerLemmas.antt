@@ -15,7 +15,7 @@ use Rattle.lb_model.specs.Sources.{FileText, Item, LineTaken, at_text_end, ended
 use Rattle.lb_model.specs.Sources.Item.{Pending, Text}
 use Rattle.lb_model.specs.Tokens.{noted_codes}
 use Rattle.lb_tokens.specs.declared.source.Layer.{Layer}
-use Rattle.lb_tokens.specs.Layers.{SourceGave, SourceGoesOn, Stands, StandsNext, behind_text, begins_pending, stands_at_text, texts_of}
+use Rattle.lb_tokens.specs.Layers.{SourceGave, SourceGoesOn, Stands, StandsNext, begins_bounded, begins_pending, behind_pending, behind_text, stands_at_text, texts_of}
 use Rattle.lb_tokens.specs.declared.source.Next.TheVariants as next
 use Rattle.lb_tokens.specs.declared.source.Pended.TheVariants as pended
 use Rattle.lb_tokens.specs.Texts.{TextGave, taken_of}
@@ -152,6 +152,21 @@ pending_put toks old new source is =
 pub begins_text : (layers : List Layer) → begins_pending (texts_of layers) ≡ false
 begins_text [] = refl
 begins_text (layer ∷ layers) = refl
+
+-- what stands first, where nothing is pending and where a token is
+pub bounded_text : (layers : List Layer) → begins_bounded (texts_of layers) ≡ false
+bounded_text [] = refl
+bounded_text (layer ∷ layers) = refl
+
+pub bounded_first : (tok : Tok) (old new : List Tok) (source : List Item) → old ≡ tok ∷ new → begins_bounded (map Pending old ++ source) ≡ is_boundary tok
+bounded_first tok old new source is = ap (λ l. begins_bounded (map Pending l ++ source)) is
+
+pub behind_texts : (layers : List Layer) → behind_pending (texts_of layers) ≡ texts_of layers
+behind_texts [] = refl
+behind_texts (layer ∷ layers) = refl
+
+pub behind_first : (tok : Tok) (old new : List Tok) (source : List Item) → old ≡ tok ∷ new → behind_pending (map Pending old ++ source) ≡ map Pending new ++ source
+behind_first tok old new source is = ap (λ l. behind_pending (map Pending l ++ source)) is
 
 texts_count : (layers : List Layer) → texts (texts_of layers) ≡ length layers
 texts_count [] = refl

@@ -6,7 +6,7 @@ use Rattle.lb_model.specs.declared.place.Got.{Got}
 use Rattle.lb_model.specs.declared.place.Got.TheVariants.{Tok as GotTok, End as GotEnd}
 use Rattle.lb_model.specs.declared.place.Place.{Place}
 use Rattle.lb_model.specs.Settings.{Notes}
-use Rattle.lb_model.specs.Sources.{Item, source_examined, source_token}
+use Rattle.lb_model.specs.Sources.{Item, is_boundary, source_examined, source_token}
 use Rattle.lb_model.specs.Sources.Item.{Pending, Text}
 use Rattle.lb_model.specs.Tokens.{noted_codes}
 use Rattle.lb_tokens.specs.declared.source.Layer.{Layer}
@@ -24,6 +24,16 @@ texts_of (layer ∷ layers) = Text layer.text ∷ map Pending layer.under ++ tex
 abbrev pub begins_pending : List Item → Bool
 begins_pending (Pending tok ∷ source) = true
 begins_pending source = false
+
+-- whether it is a boundary
+abbrev pub begins_bounded : List Item → Bool
+begins_bounded (Pending tok ∷ source) = is_boundary tok
+begins_bounded source = false
+
+-- a source without the pending token that stands first
+abbrev pub behind_pending : List Item → List Item
+behind_pending (Pending tok ∷ source) = source
+behind_pending source = source
 
 -- a source without the text that stands first
 abbrev pub behind_text : List Item → List Item

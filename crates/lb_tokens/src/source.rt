@@ -11,7 +11,7 @@ ghost use Rattle.lb_model.specs.Stops.{MayStopAt};
 ghost use Rattle.lb_model.specs.Told.{Told};
 ghost use Rattle.lb_model.specs.Tokens.{categories, noted_codes};
 ghost use Rattle.lb_model_grammar.specs.Arguments.{substituted};
-ghost use Rattle.lb_tokens.specs.Layers.{Gave, SourceGave, Stands, behind_text, begins_pending, stands_at_text, texts_of};
+ghost use Rattle.lb_tokens.specs.Layers.{Gave, SourceGave, Stands, begins_bounded, begins_pending, behind_pending, behind_text, stands_at_text, texts_of};
 
 use crate::stack::TokStack;
 use crate::text::Text;
@@ -167,6 +167,50 @@ impl Source {
             .push_call(Call::of(definition, arguments), alloc)?;
         self.count += count;
         Ok(true)
+    }
+
+    /// Whether a boundary stands next. After want of memory nothing is left, or not the token that stood next.
+    #[tactic(auto, using(crate::proofs::LayerLemmas::bounded_text, crate::proofs::LayerLemmas::bounded_first))]
+    pub fn is_bounded(&mut self) -> Result<bool, NoMemory>
+        ensures { IfOk result (λ bounded. (begins_bounded self.old ≡ bounded) × (self.new ≡ self.old)) }
+    {
+        match self.stack.pop() {
+            Ok(None) => Ok(false),
+            Ok(Some(tok)) => {
+                let bounded = is_boundary(&tok);
+                match self.stack.push(tok) {
+                    Ok(()) => Ok(bounded),
+                    Err(error) => {
+                        self.count -= 1;
+                        Err(error)
+                    }
+                }
+            }
+            Err(error) => {
+                self.layers.clear();
+                self.count = 0;
+                Err(error)
+            }
+        }
+    }
+
+    /// Takes away the token that is pending next, as a boundary is. After want of memory nothing is left.
+    #[tactic(auto, using(crate::proofs::LayerLemmas::behind_texts, crate::proofs::LayerLemmas::behind_first))]
+    pub fn drop_pending(&mut self) -> Result<(), NoMemory>
+        ensures { OnOk result (self.new ≡ behind_pending self.old) }
+    {
+        match self.stack.pop() {
+            Ok(None) => Ok(()),
+            Ok(Some(_tok)) => {
+                self.count -= 1;
+                Ok(())
+            }
+            Err(error) => {
+                self.layers.clear();
+                self.count = 0;
+                Err(error)
+            }
+        }
     }
 
     /// Whether so many tokens more may be pending. Takes no memory.
