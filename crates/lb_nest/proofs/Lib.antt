@@ -1,6 +1,16 @@
+pub mod AddLemmas
 pub mod AppendLemmas
+pub mod ComesLemmas
+pub mod DigitLemmas
+pub mod EndingLemmas
+pub mod FailedLemmas
 pub mod FontLemmas
 pub mod GroupLemmas
 pub mod LeadsLemmas
+pub mod LookLemmas
+pub mod LoopLemmas
+pub mod NoteLemmas
+pub mod PageLemmas
+pub mod ParagraphLemmas
 pub mod WordLemmas
 pub mod WorksLemmas

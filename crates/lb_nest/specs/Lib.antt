@@ -1,6 +1,13 @@
 pub mod Appends
+pub mod Boxes
+pub mod Endings
 pub mod Fonts
 pub mod Groups
 pub mod Leads
+pub mod Lists
+pub mod Pages
+pub mod Paragraphs
+pub mod Spaces
+pub mod Stops
 pub mod Views
 pub mod Works

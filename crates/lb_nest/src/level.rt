@@ -1,6 +1,6 @@
 //! Open lists (tex.web, part 16). Lengths are in scaled points, 65536 to the point.
 ghost use Rattle.std.specs.Prelude.{◌≡◌, ◌≤ℤ◌, ◌<ℤ◌, pos};
-ghost use Rattle.lb_model_nest.specs.Wholes.{is_vertical, mode_of, new_level};
+ghost use Rattle.lb_model_nest.specs.Wholes.{is_paragraph, is_restricted, is_vertical, mode_of, new_level};
 ghost use Rattle.lb_model_nest.specs.Pages.{is_page};
 ghost use Rattle.lb_model_nest.specs.Words.{factor_behind};
 
@@ -12,7 +12,7 @@ use std::alloc::Global;
 use std::marker::Model;
 
 /// Behind nothing, no glue comes before the next box: −1000pt.
-const NO_DEPTH: i32 = -65_536_000;
+pub(crate) const NO_DEPTH: i32 = -65_536_000;
 
 /// A space factor, in thousandths, from 1 to 32767 (TeXbook, chapter 12).
 #[derive(Clone, Copy)]
@@ -137,4 +137,18 @@ pub fn is_page(kind: ListKind) -> bool
     ensures { result ≡ is_page kind }
 {
     matches!(kind, ListKind::Page)
+}
+
+/// Whether a list is that of a paragraph.
+pub fn is_paragraph(kind: ListKind) -> bool
+    ensures { result ≡ is_paragraph (mode_of kind) }
+{
+    matches!(mode(kind), Mode::Paragraph)
+}
+
+/// Whether a list is horizontal, but not that of a paragraph.
+pub fn is_restricted(kind: ListKind) -> bool
+    ensures { result ≡ is_restricted (mode_of kind) }
+{
+    matches!(mode(kind), Mode::Restricted)
 }

@@ -18,5 +18,5 @@ mod so_far;
 mod sums;
 
 pub use lb_model_paper::pages::{Cost, PagePart, PageRules, PartList};
-pub use page_list::{PageList, contribute};
+pub use page_list::{PageList, contribute, drop_last_glue};
 pub use pages::{flush, next_page};

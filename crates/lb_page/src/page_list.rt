@@ -1,5 +1,7 @@
 //! The vertical list that is contributed to pages.
-ghost use Rattle.std.specs.Prelude.{◌≡◌, ◌∷◌, ◌++◌, [], OnOk, OnErr};
+ghost use Rattle.std.specs.Prelude.{◌≡◌, ◌∷◌, ◌++◌, [], List, OnOk, OnErr, if◌then◌else◌};
+ghost use Rattle.lb_base.specs.declared.node.Node.{Node};
+ghost use Rattle.lb_model_paper.specs.Breaks.{is_glue};
 
 use crate::search::Search;
 use lb_base::{NoMemory, Node};
@@ -52,4 +54,27 @@ pub fn contribute(page: &mut PageList, node: Node) -> Result<(), NoMemory>
 {
     page.nodes.push_back(node)?;
     Ok(())
+}
+
+/// Whether a node is glue.
+#[tactic(auto, unfolding(lb_model_paper::specs::Breaks::is_glue))]
+fn is_glue(node: &Node) -> bool
+    ensures { result ≡ is_glue node.now }
+{
+    matches!(node, Node::Glue(_))
+}
+
+/// Takes a glue away that stands last. Where none does, the list is as it was.
+pub fn drop_last_glue(page: &mut PageList)
+    ensures last { (before : List Node) (node : Node) → page.old ≡ before ++ node ∷ []
+        → page.new ≡ (if is_glue node then before else page.old) }
+    ensures empty { page.old ≡ [] → page.new ≡ [] }
+{
+    let Some(last) = page.nodes.back() else {
+        return;
+    };
+    if is_glue(last) {
+        page.search = None;
+        page.nodes.pop_back();
+    }
 }
