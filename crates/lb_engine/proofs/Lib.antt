@@ -6,3 +6,9 @@ pub mod ReadingLemmas
 pub mod NestLemmas
 pub mod JournalLemmas
 pub mod RowLemmas
+pub mod LookLemmas
+pub mod AssignLemmas
+pub mod LetSourceLemmas
+pub mod ParameterLemmas
+pub mod SpaceLemmas
+pub mod UnexpandedLemmas

@@ -4,6 +4,17 @@
 mod engine;
 mod groups;
 mod journal;
+mod let_sources;
+mod parameters;
+mod quantities;
 mod reading;
+mod registers;
+mod seen;
+mod settings;
+mod shorthands;
+mod spaces;
+mod stars;
+mod unexpanded;
+mod variables;
 
 pub use engine::Engine;

@@ -83,7 +83,7 @@ pub fn scan<C: Cells>(
 }
 
 // The number of what was found, 0 where it has none.
-fn number_found(found: Scanned) -> i32
+pub(crate) fn number_found(found: Scanned) -> i32
     ensures { result ≡ number_found found }
 {
     match found {
@@ -94,7 +94,7 @@ fn number_found(found: Scanned) -> i32
 }
 
 // The glue that was found, and else none.
-fn glue_found(found: Scanned) -> Glue
+pub(crate) fn glue_found(found: Scanned) -> Glue
     ensures { result ≡ glue_found found }
 {
     match found {
