@@ -1,12 +1,13 @@
 -- Calls one after another: what is done and noted by all of them.
 use Rattle.std.proofs.Common.{◌≡◌, ◌∙◌, ap, refl, subst, sym}
-use Rattle.std.specs.Prelude.{Option, Result, Ok, Err}
+use Rattle.std.specs.Prelude.{Result, Ok, Err}
 use Rattle.lb_model.specs.declared.cells.Cells.{Ghosts}
 use Rattle.lb_model.specs.Settings.{Setting}
-use Rattle.lb_model.specs.Stacked.{StackedNotes, stacked_notes}
+use Rattle.lb_model.specs.Stacked.{stacked_notes}
 use Rattle.lb_model_nest.specs.declared.turn.Went.{Went}
-use Rattle.lb_model_nest.specs.declared.turn.Went.TheVariants.{On, Over, Stopped, StoppedAt}
-use Rattle.lb_model_nest.specs.Wholes.{Executed, Turn, Whole, and_as, and_then, executed}
+use Rattle.lb_model_nest.specs.declared.turn.Went.TheVariants.{On}
+use Rattle.lb_model_nest.specs.Wholes.{Executed, Turn, Whole, and_then, executed}
+use Rattle.lb_nest.proofs.LeadsLemmas.{done-as, ended-as, noted-as, noted-by, turn-as}
 use Rattle.lb_engine.specs.Leads.{Goes, Holds, Leads, Passes}
 use Rattle.lb_engine.specs.Views.{whole}
 use Rattle.lb_engine.specs.declared.engine.Engine.{Engine}
@@ -54,30 +55,6 @@ passes-engine C {act} {mid} s {en} {eo} groups e =
 
 -- ---- One row behind another
 
-abbrev turn-as : Went → Turn → Turn → Turn
-turn-as On t more = more
-turn-as Over t more = t
-turn-as (Stopped kind) t more = t
-turn-as (StoppedAt fault) t more = t
-
-done-as : (way : Went) (e more : Executed) → (and_as way e more).done ≡ turn-as way e.done more.done
-done-as On e more = refl
-done-as Over e more = refl
-done-as (Stopped kind) e more = refl
-done-as (StoppedAt fault) e more = refl
-
-abbrev noted-by : Went → Option StackedNotes → Executed → Option StackedNotes
-noted-by On n more = more.noted n
-noted-by Over n more = n
-noted-by (Stopped kind) n more = n
-noted-by (StoppedAt fault) n more = n
-
-noted-as : (way : Went) (e more : Executed) (n : Option StackedNotes) → (and_as way e more).noted n ≡ noted-by way (e.noted n) more
-noted-as On e more n = refl
-noted-as Over e more n = refl
-noted-as (Stopped kind) e more n = refl
-noted-as (StoppedAt fault) e more n = refl
-
 -- what the first comes to, with the second behind it
 pub and-passes : {S : Type 0} {C : Ghosts S} (act mid more : Whole → Executed) {new : S} {en : Engine} {old : S} {eo : Engine}
     → Passes C act mid new en old eo → Passes C (λ w. and_then (act w) more) (λ w. and_then (mid w) more) new en old eo
@@ -108,12 +85,6 @@ pub leads-then : {S E X : Type 0} {C : Ghosts S} (act more : Whole → Executed)
 leads-then {S} {E} {X} {C} act more result {went} {new} {en} {m} {em} {old} {eo} is first second =
     let both = and-passes act (executed On) more (subst (λ y. Passes C act (executed y) m em old eo) is first.passes) in
     leads-after result first.narrows (record { done = both.done; notes = both.notes }) first.made first.loan second
-
-pub ended-as : (went : Went) (w : Whole) (more : Whole → Executed) → (went ≡ On → ⊥) → and_then (executed went w) more ≡ executed went w
-ended-as On w more h = absurd (h refl)
-ended-as Over w more h = refl
-ended-as (Stopped kind) w more h = refl
-ended-as (StoppedAt fault) w more h = refl
 
 -- a row that does not
 pub leads-ended : {S E : Type 0} {C : Ghosts S} (act more : Whole → Executed) (went : Went) {new : S} {en : Engine} {old : S} {eo : Engine}

@@ -96,25 +96,25 @@ passes-to {S} {X} {C} {of} {act} rest {x} {y} {new} {gn} {ln} {nn} {old} {go} {l
 
 -- ---- One row behind another
 
-abbrev turn-as : Went → Turn → Turn → Turn
+abbrev pub turn-as : Went → Turn → Turn → Turn
 turn-as On t more = more
 turn-as Over t more = t
 turn-as (Stopped kind) t more = t
 turn-as (StoppedAt fault) t more = t
 
-done-as : (way : Went) (e more : Executed) → (and_as way e more).done ≡ turn-as way e.done more.done
+pub done-as : (way : Went) (e more : Executed) → (and_as way e more).done ≡ turn-as way e.done more.done
 done-as On e more = refl
 done-as Over e more = refl
 done-as (Stopped kind) e more = refl
 done-as (StoppedAt fault) e more = refl
 
-abbrev noted-by : Went → Option StackedNotes → Executed → Option StackedNotes
+abbrev pub noted-by : Went → Option StackedNotes → Executed → Option StackedNotes
 noted-by On n more = more.noted n
 noted-by Over n more = n
 noted-by (Stopped kind) n more = n
 noted-by (StoppedAt fault) n more = n
 
-noted-as : (way : Went) (e more : Executed) (n : Option StackedNotes) → (and_as way e more).noted n ≡ noted-by way (e.noted n) more
+pub noted-as : (way : Went) (e more : Executed) (n : Option StackedNotes) → (and_as way e more).noted n ≡ noted-by way (e.noted n) more
 noted-as On e more n = refl
 noted-as Over e more n = refl
 noted-as (Stopped kind) e more n = refl

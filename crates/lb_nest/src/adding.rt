@@ -5,23 +5,22 @@ ghost use Rattle.lb_base.specs.declared.node.Boxed.{out-Boxed};
 ghost use Rattle.lb_model_paper.specs.Lines.{appended, new_depth};
 ghost use Rattle.lb_model.specs.Settings.{Setting};
 ghost use Rattle.lb_model_nest.specs.Pages.{added, all_added};
-ghost use Rattle.lb_model_nest.specs.Paragraphs.{box_added, line_cells, line_rules};
-ghost use Rattle.lb_nest.specs.Leads.{Goes, Looks};
+ghost use Rattle.lb_model_nest.specs.Paragraphs.{box_added};
+ghost use Rattle.lb_nest.specs.Leads.{Goes};
 ghost use Rattle.lb_nest.specs.Pages.{box_with};
 ghost use Rattle.lb_nest.specs.Views.{Keeps};
 
 use crate::level::{OpenList, is_page};
 use crate::nest::Nest;
 use crate::pages::add_to_page;
+use crate::shape::read_line_rules;
 use crate::stack::Stack;
 use crate::stops::stopped;
 use lb_base::{Boxed, NoMemory, Node, NodeList, Stop};
-use lb_groups::{Groups, looks};
+use lb_groups::Groups;
 use lb_lines::{LineRules, append_line};
 use lb_model::Cells;
 use lb_model_nest::Went;
-use lb_rows::Parameter;
-use lb_values::Cell;
 use sqlite_items::Items;
 use std::alloc::Global;
 
@@ -113,20 +112,6 @@ pub fn add_all<C: Cells>(
     Ok(Went::On)
 }
 
-// The rules of the glue between lines now.
-fn line_rules<C: Cells>(cells: &mut C, groups: &Groups) -> Result<LineRules, NoMemory>
-    ensures looks { Looks C.Cells groups.now line_cells line_rules result cells.new cells.old }
-{
-    let baselineskip = looks::glue(cells, groups, Cell::Par(Parameter::BaselineSkip))?;
-    let lineskip = looks::glue(cells, groups, Cell::Par(Parameter::LineSkip))?;
-    let lineskiplimit = looks::dimension(cells, groups, Cell::Par(Parameter::LineSkipLimit))?;
-    Ok(LineRules {
-        baselineskip,
-        lineskip,
-        lineskiplimit,
-    })
-}
-
 // A box behind the glue that comes before it in a list, whose last box it then is.
 fn line_of(
     alloc: Global,
@@ -176,6 +161,6 @@ pub fn add_box<C: Cells>(
     requires keeps { (p : Setting) → C.agrees cells.old p → Keeps p (C.meaning cells.old p) groups.old nest.old }
     ensures goes { Goes C.Cells (box_added boxed) result cells.new groups.new left.new nest.new cells.old groups.old left.old nest.old }
 {
-    let rules = line_rules(cells, groups)?;
+    let rules = read_line_rules(cells, groups)?;
     add_by(cells, groups, left, nest, &rules, boxed)
 }
