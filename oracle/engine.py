@@ -48,7 +48,7 @@ import engine_kernel
 from engine_nodes import packed
 from engine_rows import Rows
 from engine_state import START, Desk, World, differences, named
-from expand import Fault, given_numbers, given_register, token_list, with_deep_stack, Macro
+from expand import Fault, given_numbers, given_register, is_space, token_list, with_deep_stack, Macro
 
 FONT = (Path(__file__).resolve().parent.parent / 'examples/plain/cmr10.tfm').read_bytes()
 FIRST_INCLUDE = 3
@@ -64,9 +64,13 @@ class Engine(Rows):
     def run(self):
         while True:
             if self.at_mark():
+                self.skips_spaces = False
                 self.close_environment(self.list.pop().name)
                 continue
             token, protected = self.expanded()
+            if token is not None and is_space(token) and self.skips_spaces:
+                continue
+            self.skips_spaces = False
             if token is not None:
                 self.execute(token, protected)
             elif not self.at_mark():
@@ -82,7 +86,8 @@ class Engine(Rows):
                 raise Fault('IfOpen', self.closing)
             self.clear_page()
         except Fault as fault:
-            place = fault.place or (self.closing if fault.kind == 'IfOpen' else self.place)
+            # text that is skipped up to the end of the piece ends there, and not where it is skipped up to the end of an environment
+            place = fault.place or (self.closing if fault.kind == 'IfOpen' and not self.at_mark() else self.place)
             return fault.kind, *place
         return None
 

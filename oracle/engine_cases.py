@@ -733,9 +733,30 @@ def corners():
     chapter(r'\hbox{\vrule width16383pt}\hrule height16383pt \hrule height16383pt ')
 
 
+# ---- the order in which a row does its parts, and what it looks at
+
+def orders():
+    lines = [
+        r'\pagenumbering{roman}x', r'\begin{enumerate}\item x\end{enumerate}', r'\begin{enumerate}x\item y\item z\end{enumerate}',
+        r'\setcounter{enumi}{2147483647}\@list1 \setcounter{enumi}{2147483647}x\item y', r'\hspace{x}', r'\hspace*{1pt\ifhmode plus1pt\fi}x',
+        r'\hspace{\ifhmode1pt\else x\fi}y', r'\ignorespaces  \noexpand\ldots x', '\\ignorespaces \n \\bfseries x', r'{\ignorespaces }x',
+        r'\newenvironment{e}{}{\ignorespaces}\begin{e}\end{e} x', r'\noexpand\ldots x', r'\edef\q{\noexpand\ldots}x', r'\edef\q{\noexpand\nosuch}x',
+        r'\if\noexpand~\noexpand~x\fi', '\\def\\q{#x\n}', '\\def\\q{#x\n', '\\edef\\q#1{#\\ldots\n}', r'\toks0={1}\edef\q#1{#\the\toks0 }\q x',
+        r'\let\z= \global\z\count1=5 ', r'\ifx\ldots\dots x\fi', r'\typeout{\thepage}', r'\section{x}', r'\chapter{x}',
+        r'\hbox{\count1=5 \kern16000pt\kern16000pt}', r'x\@ins{\count1=5 \kern16000pt\kern16000pt}',
+        r'\discretionary{\aftergroup z a}{b}{c}', r'\markboth{\aftergroup z a}{b}x', r'\markboth{\kern16000pt\kern16000pt}{\typeout{x}}',
+        '\\newenvironment{e}{}{\\iffalse}\\begin{e}\n\\end{e}\n\nx', 'x\\iffalse\n\ny']
+    for line in lines:
+        chapter(line)
+        chapter(line, *par(hsize=20))
+    for hsize in (20, 60):
+        chapter(r'xxxxxxxxxxx \hbox to0pt{\kern16000pt\hss}\hbox{\kern16000pt\kern383pt}\penalty-10000 \kern16000pt\kern16000pt y', *par(hsize=hsize))
+    chapter(r'\markboth{a}{b}x', counter('page', 2147483647), 'set=pagestyle:headings')
+
+
 def main():
     for section in (corners, pieces, worked, faults, rows_alone, limits, headings, contents, lists, environments, paragraphs, boxes, pages,
-        expansion):
+        expansion, orders):
         section()
     drawn(440)
     soup(450)

@@ -80,6 +80,7 @@ class Lists(Reader):
         self.log = Log(self.appends)
         self.levels = [Level('page')]
         self.plain_next = False
+        self.skips_spaces = False
 
     @property
     def mode(self):
@@ -207,8 +208,9 @@ class Lists(Reader):
             nodes.pop()
         nodes += [penalty(10000), glue_node(filling), penalty(-10000)]
         paragraph, ends = chosen_breaks(nodes, (width, glue_node(left), glue_node(right)), rules)
-        self.say_bad_lines(paragraph, ends)
+        # a line that cannot be made is a fault before any bad line is told
         made = lines_of(paragraph, [end for end, _ in ends])
+        self.say_bad_lines(paragraph, ends)
         self.levels.pop()
         for is_line, node in made:
             if is_line:
@@ -229,13 +231,13 @@ class Lists(Reader):
     def leave_group(self):
         self.back(*self.cells.close().after)
 
-    def open_list(self, kind, use):
-        """Opens a group with a list of its own; its nodes are used at the end of the group."""
+    def open_list(self, kind, use, pack=list):
+        """Opens a group with a list of its own. At its end the list is packed while the group is open, and used behind the group."""
         def finish():
             self.end_paragraph()
-            nodes = self.levels.pop().nodes
+            made = pack(self.levels.pop().nodes)
             self.leave_group()
-            use(nodes)
+            use(made)
         self.cells.open('material', finish)
         self.levels.append(Level(kind))
 
@@ -246,7 +248,7 @@ class Lists(Reader):
                 target, size = name, self.dimension()
                 break
         self.begin_group_token()
-        self.open_list('horizontal' if axis == 'hbox' else 'vertical', lambda nodes: use(packed(axis, nodes, target, size)))
+        self.open_list('horizontal' if axis == 'hbox' else 'vertical', use, lambda nodes: packed(axis, nodes, target, size))
 
     def taken_box(self, row):
         cell = f'boxed.{self.register_number()}'
@@ -267,25 +269,30 @@ class Lists(Reader):
         else:
             raise Fault('TokenMisplaced')
 
-    def from_tokens(self, kind, tokens, use, prepare=None):
+    def from_tokens(self, kind, tokens, use, pack=list):
         """Makes a list from the tokens of an argument."""
-        self.open_list(kind, use)
-        if prepare:
-            prepare()
         self.back(*tokens, END_GROUP)
+        self.open_list(kind, use, pack)
 
-    def from_each(self, kind, arguments, use, prepare=None):
-        """Makes a list from each argument in turn."""
+    def from_each(self, kind, arguments, use, prepare=None, pack=list):
+        """Makes a list from each argument in turn. The tokens of all of them are put back first: so what \\aftergroup keeps behind one list
+        comes at the beginning of the next."""
         made = []
+        for tokens in reversed(arguments):
+            self.back(*tokens, END_GROUP)
 
-        def more(nodes=None):
-            if nodes is not None:
-                made.append(nodes)
+        def one():
+            self.open_list(kind, more, pack)
+            if prepare:
+                prepare()
+
+        def more(packed_list):
+            made.append(packed_list)
             if len(made) == len(arguments):
                 use(made)
             else:
-                self.from_tokens(kind, arguments[len(made)], more, prepare)
-        more()
+                one()
+        one()
 
     # pages
 
@@ -351,11 +358,12 @@ class Lists(Reader):
         return b'\\@writefile{' + ext + b'}{\\contentsline {' + type_ + b'}{' + written(title) + b'}{' + page + b'}}\n'
 
     def after_page(self, number, lefts, rights):
-        if lefts:
-            self.cells.set('leftmark', lefts[-1])
-        if rights:
-            self.cells.set('rightmark', rights[-1])
+        # the number grows, the page's own style is forgotten, and then the marks are carried on
         if number == text.WORD:
             raise Fault('Overflow')
         self.cells.set('counter.' + b'page'.hex(), number + 1)
         self.cells.set('thisstyle', None)
+        if lefts:
+            self.cells.set('leftmark', lefts[-1])
+        if rights:
+            self.cells.set('rightmark', rights[-1])

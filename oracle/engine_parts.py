@@ -169,7 +169,8 @@ class Parts(Lists):
         if one.kind in (3, 4):
             self.widen('rightskip', one.margin())
         if one.kind == 1:
-            self.set_counter(ENUMERATORS[one.place][0].encode(), 0)
+            # set whatever it was, so it is not looked at
+            self.cells.set(named('counter', ENUMERATORS[one.place][0].encode()), 0)
         if one.kind in (5, 6):
             self.back(word(NAMES[one.kind - 5].encode()))
         if one.kind == 7:
@@ -195,11 +196,11 @@ class Parts(Lists):
         label = self.bracket()
         if not self.lists:
             raise Fault('ItemOutside')
-        tokens = self.item_tokens(self.lists[-1], label)
         if self.mode != 'R':
             self.end_paragraph()
             self.begin_paragraph(False)
-        self.back(*tokens)
+        # the number is stepped behind the paragraph before, which may ship a page
+        self.back(*self.item_tokens(self.lists[-1], label))
 
     def item_tokens(self, one, label):
         if label is None:

@@ -54,7 +54,7 @@ def written_token(token):
 
 
 class Reader(Feeder):
-    """The feeder with marks, and with looks at the meaning of a token behind \\noexpand put off until it is used."""
+    """The feeder with marks. A token behind \\noexpand tells its meaning as soon as it is taken."""
 
     def at_mark(self):
         return bool(self.list) and isinstance(self.list[-1], Mark)
@@ -91,7 +91,9 @@ class Reader(Feeder):
                 return None, False
             row = self.row(token)
             if row == 'noexpand':
-                return must(self.plain()), True
+                kept = must(self.plain())
+                self.meaning(kept)
+                return kept, True
             if not self.can_expand(token):
                 return token, False
             if row == 'the' and body is not None:
@@ -227,31 +229,17 @@ class Reader(Feeder):
             raise Fault('TokenMisplaced')
         return f'#{parameter_number(token)}'
 
+    # A body whose opening brace was taken is read up to its end before its parameters are looked for: a parameter that is wrong is a fault
+    # behind its closing brace.
+
     def plain_body(self, count):
-        """A body whose opening brace was taken."""
-        found, depth = [], 0
-        while True:
-            token = must(self.in_file())
-            depth += opens_group(token) - closes_group(token)
-            if depth < 0:
-                return found
-            put(found, [self.of_body(token, lambda: must(self.in_file()), count)])
+        return self.given_body(self.group(), count)
 
     def expanded_body(self, count):
-        self.in_body = True
-        found, depth = [], 0
-        while True:
-            of_register = []
-            token = must(self.expanded(of_register)[0])
-            put(found, halved(of_register))
-            depth += opens_group(token) - closes_group(token)
-            if depth < 0:
-                self.in_body = False
-                return found
-            put(found, [self.of_body(token, lambda: must(self.next()), count)])
+        return self.given_body(self.body(), count)
 
     def given_body(self, tokens, count):
-        """The body of a macro that is an argument."""
+        """The body of a macro, from the tokens between its braces."""
         rest = list(reversed(tokens))
         found = []
 
@@ -262,13 +250,3 @@ class Reader(Feeder):
         while rest:
             found.append(self.of_body(rest.pop(), following, count))
         return found
-
-
-def halved(tokens):
-    """The tokens of a register, in which a parameter character was doubled."""
-    found, rest = [], iter(tokens)
-    for token in rest:
-        found.append(token)
-        if is_parameter(token):
-            next(rest)
-    return found

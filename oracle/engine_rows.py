@@ -6,7 +6,7 @@ from engine_nodes import discretionary, glue_node, lowered, packed, penalty, rul
 from engine_parts import NO_LENGTH, Parts
 from engine_read import Mark, made, written
 from engine_state import cell_of, named, word_cell
-from expand import CODES, FORMS, REFUSED, SIDES, Fault, Macro, Text, code_of, must, word
+from expand import CODES, FORMS, MOST_TOKENS, REFUSED, SIDES, Fault, Macro, Text, code_of, is_space, must, word
 from paper import LIMIT, Node
 from scan import advanced, on_each, quotient
 
@@ -119,7 +119,10 @@ class Rows(Parts):
     def after_group(self, name):
         token = must(self.plain())
         if self.cells.groups:
-            self.cells.groups[-1].after.append(token)
+            after = self.cells.groups[-1].after
+            if len(after) == MOST_TOKENS:
+                raise Fault('DepthLimit')
+            after.append(token)
 
     # assignments
 
@@ -134,7 +137,7 @@ class Rows(Parts):
             meaning = self.meaning(must(token))
             if protected and self.can_expand(token):
                 raise Fault('TokenMisplaced')
-            if meaning[0] == 'char' and meaning[1] == text.SPACE:
+            if is_space(token):
                 continue
             if meaning in (('row', 'long'), ('row', 'global')):
                 long |= meaning[1] == 'long'
@@ -385,11 +388,8 @@ class Rows(Parts):
             nodes.pop()
 
     def ignore_spaces(self, name):
-        token = self.next()
-        while token is not None and token.startswith('c10:'):
-            token = self.next()
-        if token is not None:
-            self.back(token)
+        """The spaces go that come before the next token; that one is executed as it was taken, and is not put back."""
+        self.skips_spaces = True
 
     def italic(self, name):
         self.not_vertical()
@@ -421,7 +421,7 @@ class Rows(Parts):
 
     def footnote(self, name):
         self.only_in_paragraph()
-        self.from_tokens('vertical', self.argument(), lambda nodes: self.append(Node('ins', inside=[packed('vbox', nodes)])))
+        self.from_tokens('vertical', self.argument(), lambda box: self.append(Node('ins', inside=[box])), pack=lambda nodes: packed('vbox', nodes))
 
     def new_line(self, name):
         self.only_in_paragraph()
@@ -436,9 +436,11 @@ class Rows(Parts):
             self.append(node)
 
     def horizontal_space(self, name):
+        # the argument is taken, a paragraph begins, and only then the glue is read: as by \hskip, which stands before the argument's tokens
         star = self.star()
-        glue = self.within(self.argument(), self.glue)
+        tokens = self.argument()
         self.begin_in_vertical()
+        glue = self.within(tokens, self.glue)
         if star:
             self.append(rule(0, 'x', 'x'))
             self.append(penalty(10000))
@@ -597,19 +599,18 @@ class Rows(Parts):
         if form not in FORMS:
             raise Fault('BadCode')
         self.cells.set('pageform', form)
-        self.set_counter(b'page', 1)
+        # this counter is not named by the row, and what it was before does not matter: it is not looked at
+        self.cells.set(named('counter', b'page'), 1)
 
     def mark(self, name):
         arguments = [self.argument() for _ in range(2 if name == 'markboth' else 1)]
         kind = 'both' if name == 'markboth' else 'right'
-        self.from_each('horizontal', arguments, lambda made_: self.add_mark(kind, made_), self.mark_font)
+        add = lambda boxes: self.append(Node(kind, inside=boxes))
+        self.from_each('horizontal', arguments, add, self.mark_font, lambda nodes: packed('hbox', nodes))
 
     def mark_font(self):
         self.cells.set('size', 4)
         self.cells.set('style', 0)
-
-    def add_mark(self, kind, lists):
-        self.append(Node(kind, inside=[packed('hbox', nodes) for nodes in lists]))
 
     def contents_entry(self, name):
         ext, kind = self.word(), self.word()

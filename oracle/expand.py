@@ -554,7 +554,8 @@ class Feeder:
         self.back(*map(character, self.cells.job))
 
     def the_page(self):
-        self.print(in_form(self.counter(b'page'), self.cells.values['page form']))
+        form = self.cells.values['page form']
+        self.print(in_form(self.counter(b'page'), form))
 
     def counter(self, name):
         number = self.cells.values.get(f'counter {name.hex()}')
@@ -804,7 +805,8 @@ class Feeder:
         if test in ('ifvmode', 'ifhmode'):
             return (self.mode == 'V') == (test == 'ifvmode')
         if test == 'ifx':
-            return self.meaning(must(self.plain())) == self.meaning(must(self.plain()))
+            left, right = must(self.plain()), must(self.plain())
+            return self.meaning(left) == self.meaning(right)
         if test == 'ifodd':
             return self.number() % 2 == 1
         if test in ('if', 'ifcat'):
