@@ -1,5 +1,5 @@
 -- Calls one after another: what is done and noted by all of them.
-use Rattle.std.proofs.Common.{◌≡◌, ◌∙◌, ap, refl, subst, sym}
+use Rattle.std.proofs.Common.{◌≡◌, ◌∙◌, ap, subst, sym}
 use Rattle.std.specs.Prelude.{Result, Ok, Err}
 use Rattle.lb_model.specs.declared.cells.Cells.{Ghosts}
 use Rattle.lb_model.specs.Settings.{Setting}
@@ -8,7 +8,7 @@ use Rattle.lb_model_nest.specs.declared.turn.Went.{Went}
 use Rattle.lb_model_nest.specs.declared.turn.Went.TheVariants.{On}
 use Rattle.lb_model_nest.specs.Wholes.{Executed, Turn, Whole, and_then, executed}
 use Rattle.lb_nest.proofs.LeadsLemmas.{done-as, ended-as, noted-as, noted-by, turn-as}
-use Rattle.lb_engine.specs.Leads.{Goes, Holds, Leads, Passes}
+use Rattle.lb_engine.specs.Leads.{Goes, Leads, Passes}
 use Rattle.lb_engine.specs.Views.{whole}
 use Rattle.lb_engine.specs.declared.engine.Engine.{Engine}
 

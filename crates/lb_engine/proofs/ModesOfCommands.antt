@@ -1,5 +1,5 @@
 -- No command that is expanded changes the mode.
-use Rattle.std.proofs.Common.{◌≡◌, ℕ, List, ◌∙◌, refl, arith}
+use Rattle.std.proofs.Common.{◌≡◌, ℕ, List, arith}
 use Rattle.lb_base.specs.declared.token.Tok.{Tok}
 use Rattle.lb_values.specs.declared.value.Form.{Form}
 use Rattle.lb_model_grammar.specs.declared.condition.Branch.{Branch}

@@ -1,5 +1,5 @@
 -- No step of expansion changes the mode.
-use Rattle.std.proofs.Common.{◌≡◌, ◌≡◌, ◌++◌, ℕ, zero, suc, List, [], ◌∷◌, ap, ◌∙◌, refl, arith}
+use Rattle.std.proofs.Common.{◌≡◌, ◌≡◌, ◌++◌, ℕ, zero, suc, List, [], ◌∷◌, ◌∙◌, refl, arith}
 use Rattle.std.specs.Prelude.{Option, Some, None}
 use Rattle.lb_base.specs.declared.token.Tok.{Tok}
 use Rattle.lb_values.specs.declared.meaning.MacroDef.{MacroDef}

@@ -1,5 +1,5 @@
 -- Calls over the nest of an engine.
-use Rattle.std.proofs.Common.{◌≡◌, refl, ℕ, List}
+use Rattle.std.proofs.Common.{refl, ℕ, List}
 use Rattle.std.specs.Prelude.{Result, Ok, Err}
 use Rattle.lb_values.specs.declared.value.Value.{Value}
 use Rattle.lb_values.specs.Kept.{Kept}
@@ -9,8 +9,10 @@ use Rattle.lb_model.specs.Settings.{Setting}
 use Rattle.lb_model_nest.specs.Wholes.{Executed, Whole}
 use Rattle.lb_nest.specs.Leads.{Leads as NestLeads}
 use Rattle.lb_nest.specs.Views.{anywhere, at_place}
+use Rattle.lb_nest.specs.Works.{Works}
 use Rattle.lb_nest.specs.declared.nest.Nest.{Nest}
-use Rattle.lb_engine.specs.Leads.{Leads}
+use Rattle.lb_nest.proofs.WorksLemmas.{works-leads}
+use Rattle.lb_engine.specs.Leads.{Holds, Leads}
 use Rattle.lb_engine.specs.Views.{whole}
 use Rattle.lb_engine.specs.declared.engine.Engine.{Engine}
 
@@ -47,3 +49,8 @@ nest_leads_at {S} {E} {X} {C} (Ok x) {new} {groups} {left} {nest} {old} {e} l =
       loan = l.loan;
     }
 nest_leads_at (Err x) l = record { narrows = l.narrows; passes = tt; keeps = tt; made = l.made; loan = l.loan }
+
+-- a call over the nest alone
+pub nest_works : {S E X : Type 0} (C : Ghosts S) {act : Whole → Executed} {rest : X → Whole → Executed} (result : Result X E) {s : S} {left : ℕ} {nest : Nest} {e : Engine}
+    → Holds C s e → Works act rest result left nest e.desk.left e.nest → Leads C act rest result s (with_nest e.desk.groups left nest e) s e
+nest_works C result holds works = nest_leads result (works-leads C result holds works)

@@ -1,5 +1,5 @@
 -- What is read of the feed.
-use Rattle.std.proofs.Common.{◌≡◌, ◌∙◌, ◌++◌, [], Some, None, List, ap, refl, subst, sym}
+use Rattle.std.proofs.Common.{◌≡◌, ◌∙◌, ◌++◌, [], ap, subst, sym}
 use Rattle.std.specs.Prelude.{Option, Result, Ok, Err}
 use Rattle.std.specs.Option.{option_map}
 use Rattle.std.proofs.lemmas.List.{append-nil}
@@ -12,7 +12,6 @@ use Rattle.lb_values.specs.declared.meaning.Meaning.{Meaning}
 use Rattle.lb_values.specs.declared.value.Value.{Value}
 use Rattle.lb_values.specs.Kept.{Kept}
 use Rattle.lb_model.specs.declared.cells.Cells.{Ghosts}
-use Rattle.lb_model.specs.declared.group.Group.{Group}
 use Rattle.lb_model.specs.Configs.{Config, looks_of_meaning}
 use Rattle.lb_model.specs.Meanings.{token_meaning}
 use Rattle.lb_model.specs.Settings.{Setting, noted_all}
@@ -22,12 +21,12 @@ use Rattle.lb_model_expansion.specs.Steps.{Performed, Step, performed}
 use Rattle.lb_model_expansion.specs.declared.expansion.Went.{Went}
 use Rattle.lb_model_expansion.specs.declared.expansion.Went.TheVariants.{Stopped, StoppedAt}
 use Rattle.lb_expand.specs.Turns.{ended_with}
-use Rattle.lb_model_nest.specs.Wholes.{Executed, Whole, behind, looking, mode_of, with_feed}
+use Rattle.lb_model_nest.specs.Wholes.{Executed, Whole, behind, mode_of, with_feed}
 use Rattle.lb_model_engine.specs.Reads.{meaning_to}
 use Rattle.lb_expand.specs.Performs.{Passes as Performs-Passes, Performs}
 use Rattle.lb_expand.specs.Views.{config}
 use Rattle.lb_expand.specs.declared.desk.Desk.{Desk}
-use Rattle.lb_nest.specs.Views.{HasRight, Keeps}
+use Rattle.lb_nest.specs.Views.{HasRight}
 use Rattle.lb_nest.proofs.LeadsLemmas.{notes-looked-all}
 use Rattle.lb_nest.specs.declared.nest.Nest.{Nest}
 use Rattle.lb_engine.proofs.LeadsLemmas.{passes-then}

@@ -1,8 +1,7 @@
 -- What is read of the feed without expansion.
-use Rattle.std.proofs.Common.{◌≡◌, ◌∙◌, List, ap, refl, subst, sym, true}
-use Rattle.std.specs.Prelude.{Bool, Option, Some, None, Result, Ok, Err, IfOk, IfErr}
+use Rattle.std.proofs.Common.{◌≡◌, List, ap, subst, sym, true}
+use Rattle.std.specs.Prelude.{Bool, Some, Result, Ok, Err, IfOk, IfErr}
 use Rattle.std.specs.Option.{option_map}
-use Rattle.lb_base.specs.declared.fault.Kind.{Kind}
 use Rattle.lb_base.specs.declared.fault.Stop.{Stop}
 use Rattle.lb_base.specs.declared.fault.Stop.TheVariants.{Memory, Fault, At}
 use Rattle.lb_base.specs.declared.token.Tok.{Tok}
@@ -11,15 +10,12 @@ use Rattle.lb_model_grammar.specs.declared.given.Given.{Given}
 use Rattle.lb_model_grammar.specs.Scans.{Meant}
 use Rattle.lb_model.specs.declared.cells.Cells.{Ghosts}
 use Rattle.lb_model.specs.declared.place.Got.{Got}
-use Rattle.lb_model.specs.declared.place.Got.TheVariants.{Tok as GotTok, End as GotEnd, Fault as GotFault}
 use Rattle.lb_model.specs.Configs.{Config, Taking, looks_by, looks_of_plain, plain, taken_by}
 use Rattle.lb_model.specs.Readings.{Outcome, Took, failed, looks_taken, noting, taken, whole as took_whole}
 use Rattle.lb_model.specs.Readings.Outcome.{Failed, Whole as AWhole}
 use Rattle.lb_model.specs.Settings.{Setting, noted_all}
-use Rattle.lb_model.specs.Stacked.{Standing, looked_all, stacked_notes}
+use Rattle.lb_model.specs.Stacked.{Standing, looked_all}
 use Rattle.lb_model.specs.Stops.{MayStopAt}
-use Rattle.lb_model.specs.Told.{Told}
-use Rattle.lb_model_nest.specs.declared.turn.Went.TheVariants.{Stopped}
 use Rattle.lb_model_nest.specs.Wholes.{Executed, Whole, executed}
 use Rattle.lb_model_engine.specs.Reads.{got_to, outcome_to, reading_by, taking}
 use Rattle.lb_expand.specs.Views.{config}

@@ -3,8 +3,11 @@
 
 mod engine;
 mod groups;
+mod items;
 mod journal;
 mod let_sources;
+mod material;
+mod paragraphs;
 mod parameters;
 mod quantities;
 mod reading;

@@ -1,4 +1,4 @@
-use Rattle.std.proofs.Common.{refl, rules, ap}
+use Rattle.std.proofs.Common.{refl, rules}
 use Rattle.lb_model_expansion.specs.Expansion.{number_found}
 use Rattle.lb_engine.specs.Reads.{behind_reading}
 use Rattle.lb_engine.proofs.RowLemmas.{read-ends, read-fails}

@@ -1,0 +1,5 @@
+use Rattle.lb_engine.proofs.NestLemmas.{nest_leads}
+use Rattle.lb_engine.proofs.paragraphs.open_mark.Goals as goal
+
+pub returns : goal.returns
+returns g c = record { goes = nest_leads c.open_mark.result (c.open_mark.ensures.goes c.args.engine.now.desk.left) }
