@@ -1,10 +1,10 @@
 -- Assignments inside groups as rows.
 use Rattle.std.proofs.Common.{◌≡◌, ◌∙◌, [], true, ℕ, List, Some, None, ap, refl, subst, sym}
-use Rattle.std.specs.Prelude.{Option, Result, Ok, Err, is_some, IfOk}
+use Rattle.std.specs.Prelude.{Option, Ok, Err, is_some}
 use Rattle.std.specs.Option.{option_map}
 use Rattle.lb_base.specs.declared.fault.Kind.{Kind}
 use Rattle.lb_base.specs.declared.fault.Stop.{Stop}
-use Rattle.lb_base.specs.declared.fault.Stop.TheVariants.{Memory, Fault, At}
+use Rattle.lb_base.specs.declared.fault.Stop.TheVariants.{Fault}
 use Rattle.lb_values.specs.declared.cell.Cell.{Cell}
 use Rattle.lb_values.specs.declared.cell.Cell.TheVariants as cell
 use Rattle.lb_values.specs.declared.cell.RegisterKind.{RegisterKind}
@@ -18,11 +18,11 @@ use Rattle.lb_model.specs.declared.group.Group.{Group}
 use Rattle.lb_model.specs.declared.world.World.{World}
 use Rattle.lb_model.specs.Assignments.{assigned_to}
 use Rattle.lb_model.specs.Ranges.{fits, is_meaning, is_settable}
-use Rattle.lb_model.specs.Settings.{Setting, State}
+use Rattle.lb_model.specs.Settings.{State}
 use Rattle.lb_model.specs.Stacked.{StackedNotes, looked_all, notes_assigned, stacked_notes}
 use Rattle.lb_groups.specs.Changes.{Assigns}
 use Rattle.lb_model_nest.specs.declared.turn.Went.TheVariants.{On, Stopped}
-use Rattle.lb_model_nest.specs.Wholes.{Executed, Turn, Whole, change_or, executed, looking}
+use Rattle.lb_model_nest.specs.Wholes.{Executed, Whole, change_or, looking}
 use Rattle.lb_model_engine.specs.Definitions.{register_meaning}
 use Rattle.lb_engine.specs.Names.{is_name}
 use Rattle.lb_engine.specs.Leads.{Goes, Holds, Leads}

@@ -1,6 +1,6 @@
 -- Tokens that are read past spaces.
-use Rattle.std.proofs.Common.{◌≡◌, ◌∙◌, ◌+◌, ◌-◌, ◌≤◌, ℕ, suc, true, false, ap, refl, subst, sym, arith, List}
-use Rattle.std.specs.Prelude.{Option, if◌then◌else◌, Result, Ok, Err}
+use Rattle.std.proofs.Common.{◌≡◌, ◌∙◌, ◌≤◌, ℕ, suc, true, false, ap, refl, subst, sym, arith}
+use Rattle.std.specs.Prelude.{Option, if◌then◌else◌, Ok}
 use Rattle.lb_base.specs.declared.token.Tok.{Tok}
 use Rattle.lb_values.specs.declared.meaning.Meaning.{Meaning}
 use Rattle.lb_model_grammar.specs.Scans.{is_space}

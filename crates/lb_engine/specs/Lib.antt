@@ -1,4 +1,7 @@
+pub mod Effects
+pub mod ExpandedTexts
 pub mod Leads
+pub mod Looks
 pub mod Names
 pub mod Parameters
 pub mod Reads

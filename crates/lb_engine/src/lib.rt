@@ -1,22 +1,33 @@
 //! The engine: what every command does, over a feeder of tokens and the semantic nest (TeXbook, chapters 24 to 26; tex.web, parts 46 to 49).
 #![tactic(auto)]
 
+mod changes;
+mod counters;
+mod effects;
 mod engine;
+mod expanded_texts;
 mod groups;
 mod items;
 mod journal;
+mod labels;
 mod let_sources;
+mod logs;
 mod material;
+mod named;
+mod new_conditionals;
+mod new_registers;
 mod paragraphs;
 mod parameters;
 mod quantities;
 mod reading;
+mod ref_steps;
 mod registers;
 mod seen;
 mod settings;
 mod shorthands;
 mod spaces;
 mod stars;
+mod styles;
 mod unexpanded;
 mod variables;
 

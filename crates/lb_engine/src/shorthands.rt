@@ -19,7 +19,7 @@ use lb_model_nest::Went;
 use lb_values::{Cell, Meaning, Reach, Register, RegisterKind, Value};
 
 // What the name of a register means; that of a box is its number, as that of a character is its code.
-fn register_meaning(kind: RegisterKind, number: u8) -> Meaning
+pub(crate) fn register_meaning(kind: RegisterKind, number: u8) -> Meaning
     ensures { result ≡ register_meaning kind number }
 {
     match kind {

@@ -1,10 +1,10 @@
-use Rattle.std.proofs.Common.{◌≡◌, ◌∙◌, ◌++◌, ◌∷◌, ◌≤◌, [], ap, sym, subst, refl, false, Some, None}
+use Rattle.std.proofs.Common.{◌∙◌, ◌∷◌, ◌≤◌, [], ap, sym, subst, refl, false}
 use Rattle.lb_base.specs.declared.fault.Kind.TheVariants.{Runaway}
-use Rattle.lb_model_engine.specs.Definitions.{ParameterText, parameter_text}
+use Rattle.lb_model_engine.specs.Definitions.{parameter_text}
 use Rattle.lb_model_grammar.specs.Scans.Meant.{Ended}
 use Rattle.lb_args.proofs.ReadingLemmas.{fed, owed-is, owed-token, reads-done, reads-end, reads-fault, reads-wrong}
 use Rattle.lb_engine.proofs.ParameterLemmas.{text-end}
-use Rattle.lb_engine.specs.Parameters.{counted, listed, turned}
+use Rattle.lb_engine.specs.Parameters.{counted, turned}
 use Rattle.lb_engine.proofs.parameters.read_parameters.Goals as goal
 use Rattle.lb_engine.proofs.parameters.read_parameters.Goals.{in-Marks+in-Word-1, in-Marks+in-Char-1, in-Adds+in_ok-push-in-Adds, in-Counts+in_ok-push-in-Counts+in-Word-1, in-Counts+in_ok-push-in-Counts+in-Char-1}
 

@@ -1,5 +1,4 @@
-use Rattle.std.proofs.Common.{◌≡◌, ◌∙◌, ℕ, ap, refl, sym, true}
-use Rattle.lb_values.specs.declared.cell.Cell.{Cell}
+use Rattle.std.proofs.Common.{◌≡◌, ◌∙◌, ℕ, ap, refl, true}
 use Rattle.lb_values.specs.declared.reach.Reach.{Reach}
 use Rattle.lb_model_engine.specs.Registers.{picked_row, variable_row}
 use Rattle.lb_model_nest.specs.declared.turn.Went.TheVariants.{On}

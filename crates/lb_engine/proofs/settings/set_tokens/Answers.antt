@@ -1,5 +1,4 @@
-use Rattle.std.proofs.Common.{FitsSigned, refl, rules, w32}
-use Rattle.std.proofs.lemmas.Int.{to_z-of_z}
+use Rattle.std.proofs.Common.{refl}
 use Rattle.std.specs.Prelude.{List}
 use Rattle.lb_base.specs.declared.token.Tok.{Tok}
 use Rattle.lb_base.specs.declared.fault.Kind.TheVariants.{BadCode}
@@ -9,7 +8,7 @@ use Rattle.lb_values.specs.declared.value.Value.TheVariants as value
 use Rattle.lb_model.specs.Assignments.{registered}
 use Rattle.lb_model_nest.specs.declared.turn.Went.TheVariants.{On}
 use Rattle.lb_model_nest.specs.Wholes.{Executed, Whole, change_or, executed}
-use Rattle.lb_engine.proofs.RowLemmas.{act-is, read-ends, read-fails, read-then}
+use Rattle.lb_engine.proofs.RowLemmas.{read-ends, read-fails, read-then}
 use Rattle.lb_engine.specs.Reads.{behind_reading}
 use Rattle.lb_engine.proofs.settings.set_tokens.Goals as goal
 

@@ -2,7 +2,6 @@ use Rattle.std.proofs.Common.{◌∙◌, ap, refl}
 use Rattle.lb_model.specs.Ranges.{is_meaning}
 use Rattle.lb_values.specs.declared.value.Value.TheVariants as value
 use Rattle.lb_model_engine.specs.Definitions.{register_meaning}
-use Rattle.lb_model_engine.specs.Reads.{code, equals}
 use Rattle.lb_model_nest.specs.declared.turn.Went.TheVariants.{On}
 use Rattle.lb_model_nest.specs.Wholes.{Executed, Whole, change, executed}
 use Rattle.lb_values.specs.declared.cell.Cell.{Cell}

@@ -1,15 +1,14 @@
 use Rattle.std.proofs.Common.{refl}
 use Rattle.lb_values.specs.declared.value.Value.TheVariants as value
 use Rattle.lb_model_engine.specs.Definitions.{register_meaning}
-use Rattle.lb_model_engine.specs.Reads.{code, equals}
+use Rattle.lb_model_engine.specs.Reads.{code}
 use Rattle.lb_model_nest.specs.declared.turn.Went.TheVariants.{On}
 use Rattle.lb_model_nest.specs.Wholes.{Executed, Whole, change, executed}
 use Rattle.lb_values.specs.declared.cell.Cell.{Cell}
 use Rattle.lb_values.specs.declared.cell.RegisterKind.{RegisterKind}
 use Rattle.lb_values.specs.declared.reach.Reach.{Reach}
 use Rattle.std.specs.Prelude.{ℕ}
-use Rattle.lb_engine.proofs.AssignLemmas.{name-fits, name-settable, register-meaning}
-use Rattle.lb_engine.proofs.RowLemmas.{read-ends, read-fails, read-then, act-is}
+use Rattle.lb_engine.proofs.RowLemmas.{read-ends, read-fails, read-then}
 use Rattle.lb_engine.specs.Reads.{behind_reading}
 use Rattle.lb_engine.proofs.shorthands.name_register.Goals as goal
 

@@ -9,8 +9,7 @@ use Rattle.lb_values.specs.declared.cell.Cell.{Cell}
 use Rattle.lb_values.specs.declared.cell.RegisterKind.{RegisterKind}
 use Rattle.lb_values.specs.declared.reach.Reach.{Reach}
 use Rattle.std.specs.Prelude.{ℕ}
-use Rattle.lb_engine.proofs.AssignLemmas.{name-fits, name-settable, register-meaning}
-use Rattle.lb_engine.proofs.RowLemmas.{read-ends, read-fails, read-then, act-is}
+use Rattle.lb_engine.proofs.RowLemmas.{read-ends, read-fails, read-then}
 use Rattle.lb_engine.specs.Reads.{behind_reading}
 use Rattle.lb_engine.proofs.shorthands.shorthand.Goals as goal
 

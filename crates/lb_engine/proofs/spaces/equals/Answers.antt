@@ -5,7 +5,6 @@ use Rattle.lb_values.specs.declared.meaning.Meaning.{Meaning}
 use Rattle.lb_model_grammar.specs.Scans.{is_other}
 use Rattle.lb_model_nest.specs.declared.turn.Went.TheVariants.{On}
 use Rattle.lb_model_nest.specs.Wholes.{Executed, Whole, and_then, executed, put}
-use Rattle.lb_model_engine.specs.Reads.{equals}
 use Rattle.lb_engine.proofs.RowLemmas.{act-is, read-ends, read-fails, read-then}
 use Rattle.lb_engine.specs.Reads.{behind_next, behind_reading}
 use Rattle.lb_engine.specs.declared.reading.Reading.TheVariants as reading

@@ -1,10 +1,8 @@
-use Rattle.std.proofs.Common.{◌≡◌, ◌∙◌, ◌+◌, ◌-◌, ◌≤◌, suc, arith, refl, sym}
-use Rattle.std.specs.Prelude.{Option, Ok, Err}
-use Rattle.lb_base.specs.declared.token.Tok.{Tok}
-use Rattle.lb_values.specs.declared.meaning.Meaning.{Meaning}
+use Rattle.std.proofs.Common.{◌∙◌, ◌+◌, ◌-◌, suc, arith, refl, sym}
+use Rattle.std.specs.Prelude.{Ok, Err}
 use Rattle.lb_model_engine.specs.Reads.{past_spaces_in, past_spaces_or}
 use Rattle.lb_model_nest.specs.declared.turn.Went.TheVariants.{On}
-use Rattle.lb_model_nest.specs.Wholes.{Executed, Whole, executed}
+use Rattle.lb_model_nest.specs.Wholes.{executed}
 use Rattle.lb_engine.specs.Reads.{behind_next}
 use Rattle.lb_engine.specs.declared.reading.Next.TheVariants as next
 use Rattle.lb_engine.proofs.LeadsLemmas.{leads-after, passes-then}

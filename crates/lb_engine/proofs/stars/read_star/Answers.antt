@@ -1,10 +1,10 @@
-use Rattle.std.proofs.Common.{◌≡◌, ◌∙◌, ◌∷◌, [], List, ap, sym, refl, true, false}
+use Rattle.std.proofs.Common.{◌≡◌, ◌∙◌, ◌∷◌, List, ap, sym, refl, true, false}
 use Rattle.std.specs.Prelude.{if◌then◌else◌}
 use Rattle.lb_model_engine.specs.Reads.{star}
-use Rattle.lb_model_grammar.specs.Scans.{Meant, is_other, is_space}
+use Rattle.lb_model_grammar.specs.Scans.{is_other, is_space}
 use Rattle.lb_model_grammar.specs.Scans.Meant.{Ended}
 use Rattle.lb_model_grammar.specs.declared.given.Given.{Given}
-use Rattle.lb_model_grammar.specs.declared.given.Given.TheVariants.{Tok as AToken, End as AnEnd}
+use Rattle.lb_model_grammar.specs.declared.given.Given.TheVariants.{Tok as AToken}
 use Rattle.lb_base.specs.declared.token.Tok.{Tok}
 use Rattle.lb_args.proofs.ReadingLemmas.{fed, owed-token, reads-back, reads-done, reads-fault, reads-full, reads-whole-end}
 use Rattle.lb_engine.proofs.stars.read_star.Goals as goal

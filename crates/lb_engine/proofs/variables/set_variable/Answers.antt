@@ -1,8 +1,5 @@
-use Rattle.std.proofs.Common.{[], ap, subst}
-use Rattle.std.specs.Prelude.{Err}
+use Rattle.std.proofs.Common.{[]}
 use Rattle.lb_base.specs.declared.fault.Kind.TheVariants.{BadCode}
-use Rattle.lb_base.specs.declared.fault.Stop.TheVariants.{Fault}
-use Rattle.lb_groups.specs.Changes.{Assigns}
 use Rattle.lb_model.specs.Assignments.{registered}
 use Rattle.lb_model_nest.specs.Wholes.{change_or}
 use Rattle.lb_engine.proofs.AssignLemmas.{assigns-on, assigns-fault, without-looks}

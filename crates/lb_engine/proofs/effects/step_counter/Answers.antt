@@ -1,0 +1,14 @@
+use Rattle.std.proofs.Common.{w32}
+use Rattle.std.proofs.lemmas.Int.{to_z-of_z}
+use Rattle.lb_model_counters.specs.Counters.{step_counter}
+use Rattle.lb_engine.proofs.EffectLemmas.{effect_leads_at}
+use Rattle.lb_engine.proofs.effects.step_counter.Goals as goal
+
+pub returns : goal.returns
+returns g c =
+    record {
+      leads =
+          λ row.
+          effect_leads_at g.C.Cells (λ n. step_counter c.args.name.now n c.args.resets) row c.step-done.result c.settled.result (to_z-of_z w32 c.args.by c.ranges.by) c.requires.holds
+          c.step-done.ensures.does c.settled.ensures;
+    }
