@@ -11,10 +11,10 @@ use lb_base::{Kind, Stop, Tok, TokList};
 use lb_model::Feed;
 use std::alloc::Global;
 
-// The shortest list with balanced braces that the delimiter follows, without its braces where it is one group (TeXbook, chapter 20). The
-// faults are those of the feed; `UseMismatch` at a closing brace of no group inside; `Runaway` where the text or the piece ends before, and
-// at a `\par` in what is not long; and `DepthLimit` above a million tokens.
-pub(crate) fn read_delimited<F: Feed>(
+/// The shortest list with balanced braces that the delimiter follows, without its braces where it is one group (TeXbook, chapter 20). The
+/// faults are those of the feed; `UseMismatch` at a closing brace of no group inside; `Runaway` where the text or the piece ends before, and
+/// at a `\par` in what is not long; and `DepthLimit` above a million tokens.
+pub fn read_delimited<F: Feed>(
     alloc: Global,
     feed: &mut F,
     long: bool,

@@ -14,5 +14,6 @@ mod turns;
 mod undelimited;
 
 pub use arguments::match_arguments;
+pub use delimited::read_delimited;
 pub use groups::read_group;
 pub use undelimited::read_undelimited;

@@ -1,5 +1,6 @@
 //! Groups of an engine, and cells that are set in them (TeXbook, chapter 7).
 ghost use Rattle.lb_model.specs.Ranges.{fits, is_settable};
+ghost use Rattle.lb_model.specs.Settings.{IsState, Setting};
 ghost use Rattle.lb_model_nest.specs.Groups.{group_closed, group_opened, kept_after};
 ghost use Rattle.lb_model_nest.specs.Wholes.{change, put};
 ghost use Rattle.lb_nest.specs.Leads.{Goes as NestGoes};
@@ -22,7 +23,7 @@ pub fn change<C: Cells>(
     reach: Reach,
 ) -> Result<Went, NoMemory>
     requires settable { is_settable cell.now value ≡ true }
-    requires fits { fits cell.now value ≡ true }
+    requires fits { (p : Setting) → C.agrees cells.old p → IsState (C.meaning cells.old p).now → fits cell.now value ≡ true }
     requires holds { Holds C.Cells cells.old engine.old }
     ensures goes { Goes C.Cells (change reach cell.now value) result cells.new engine.new cells.old engine.old }
 {

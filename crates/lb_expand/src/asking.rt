@@ -8,7 +8,7 @@ ghost use Rattle.lb_model_grammar.specs.Dimensions.{meant};
 ghost use Rattle.lb_model_grammar.specs.Printed.{quantity_text};
 ghost use Rattle.lb_model_grammar.specs.Scans.{want_of};
 ghost use Rattle.lb_model_grammar.specs.declared.given.Given.TheVariants.{Tok as AToken};
-ghost use Rattle.lb_model_expansion.specs.Expansion.{as_text, doubled, font_size, kept, scan_as, internal_met, internal_to, is_tokens, more_to_read, opened_uncounted, scan_quantity, tokens_met, with_reading, word_behind, word_opened, word_taken};
+ghost use Rattle.lb_model_expansion.specs.Expansion.{as_text, doubled, font_size, if_room, kept, scan_as, internal_met, internal_to, is_tokens, more_to_read, opened_uncounted, scan_quantity, tokens_met, with_reading, word_behind, word_opened, word_taken};
 ghost use Rattle.lb_model.specs.Quantities.Internal.{Picked as APicked};
 ghost use Rattle.lb_model_grammar.specs.declared.given.Quantity.TheVariants as quantities;
 ghost use Rattle.lb_model_expansion.specs.declared.expansion.Answer.TheVariants as answers;
@@ -91,6 +91,18 @@ impl<'a, C: Cells> Feeder<'a, C> {
     {
         if self.desk.readings.has_room() {
             return self.take_word(purpose);
+        }
+        Ok(Went::Stopped(Kind::DepthLimit))
+    }
+
+    /// Tokens that were taken are read as a text in braces is, if one more reading may be open.
+    pub(crate) fn open_text(&mut self, toks: TokList, purpose: Purpose) -> Result<Went, NoMemory>
+        ensures performs { PerformsOver C.Cells (if_room (word_behind toks purpose)) result self.new self.old }
+        ensures same_cells { self.new.cells.ghost_name ≡ self.old.cells.ghost_name }
+        ensures same_desk { self.new.desk.ghost_name ≡ self.old.desk.ghost_name }
+    {
+        if self.desk.readings.has_room() {
+            return self.put_text(toks, purpose);
         }
         Ok(Went::Stopped(Kind::DepthLimit))
     }

@@ -2,8 +2,10 @@
 ghost use Rattle.std.specs.Prelude.{◌≡◌, ◌≤◌, ◌^◌, ℕ, [], length, nat_lt};
 ghost use Rattle.std.specs.Option.{option_copied};
 ghost use Rattle.lb_model.specs.Configs.{looks_of_meaning, meaning_now};
+ghost use Rattle.lb_model.specs.declared.open.Purpose.TheVariants.{Asked as TheCaller};
 ghost use Rattle.lb_model.specs.declared.open.ReadingKind.TheVariants as reading;
-ghost use Rattle.lb_model_expansion.specs.Expansion.{body_asked, internal_given, internal_met, opened_uncounted, quantity_asked, quantity_met, ran, scan_asked, word_asked};
+ghost use Rattle.lb_model_expansion.specs.Steps.{and_then};
+ghost use Rattle.lb_model_expansion.specs.Expansion.{body_asked, if_room, internal_given, internal_met, opened_uncounted, quantity_asked, quantity_met, ran, scan_asked, word_asked, word_behind};
 ghost use Rattle.lb_model_expansion.specs.declared.expansion.Answer.TheVariants as answers;
 ghost use Rattle.lb_model_expansion.specs.declared.expansion.Went.TheVariants.{Answered as IsAnswered};
 ghost use Rattle.lb_expand.specs.Feeding.{PerformsOver};
@@ -183,6 +185,31 @@ impl<'a, C: Cells> Feeder<'a, C> {
         ensures same_desk { self.new.desk.ghost_name ≡ self.old.desk.ghost_name }
     {
         match self.run_word()? {
+            Went::Answered(Answer::Word(text)) => Ok(text),
+            went => Err(stop_of(went)),
+        }
+    }
+
+    fn run_word_of(&mut self, toks: TokList) -> Result<Went, NoMemory>
+        ensures performs { PerformsOver C.Cells (λ c. and_then (if_room (word_behind toks TheCaller) c) ran) result self.new self.old }
+        ensures same_cells { self.new.cells.ghost_name ≡ self.old.cells.ghost_name }
+        ensures same_desk { self.new.desk.ghost_name ≡ self.old.desk.ghost_name }
+    {
+        let went = self.open_text(toks, Purpose::Asked)?;
+        match went {
+            Went::On => self.run(),
+            went => Ok(went),
+        }
+    }
+
+    /// The characters of tokens that were taken, which are expanded.
+    pub fn word_of(&mut self, toks: TokList) -> Result<Bytes, Stop>
+        ensures performs { PerformsOver C.Cells (λ c. and_then (if_room (word_behind toks TheCaller) c) ran)
+            (ended_with (λ text. IsAnswered (answers.Word text)) result) self.new self.old }
+        ensures same_cells { self.new.cells.ghost_name ≡ self.old.cells.ghost_name }
+        ensures same_desk { self.new.desk.ghost_name ≡ self.old.desk.ghost_name }
+    {
+        match self.run_word_of(toks)? {
             Went::Answered(Answer::Word(text)) => Ok(text),
             went => Err(stop_of(went)),
         }

@@ -23,4 +23,5 @@ mod tests;
 pub use desk::Desk;
 pub use feeder::Feeder;
 pub use lb_model_grammar::{Quantity, ScanKind, Scanned};
+pub use steps::undefined;
 pub use taking::sense_of;

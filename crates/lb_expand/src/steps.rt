@@ -30,8 +30,8 @@ use std::alloc::AllocError;
 /// The most turns of a call.
 const MOST_TURNS: u64 = 18_446_744_060_824_649_728;
 
-// What is wrong with a control sequence that has no meaning.
-fn undefined(tok: &Tok) -> Kind
+/// What is wrong with a control sequence that has no meaning.
+pub fn undefined(tok: &Tok) -> Kind
     ensures { result ≡ undefined tok.now }
 {
     match tok {

@@ -3,7 +3,7 @@ ghost use Rattle.std.specs.Prelude.{◌≡◌, ◌≤◌, true, OnOk, OnErr, len
 ghost use Rattle.std.specs.Option.{option_map};
 ghost use Rattle.lb_values.specs.Kept.{changed, saved};
 ghost use Rattle.lb_model.specs.Ranges.{fits, is_settable};
-ghost use Rattle.lb_model.specs.Settings.{Setting, noted_change, noted_save};
+ghost use Rattle.lb_model.specs.Settings.{IsState, Setting, noted_change, noted_save};
 ghost use Rattle.lb_model.specs.Stacked.{Standing, assigned, closed, kinds_of, notes_assigned, notes_closed, stacked, stacked_notes, undone_by};
 ghost use Rattle.lb_groups.specs.Open.{closed_kinds, innermost, noted_undo_by};
 
@@ -16,7 +16,7 @@ use std::alloc::AllocError;
 // Saves the cell and sets it.
 fn save_and_set<C: Cells>(cells: &mut C, cell: &Cell, value: Value) -> Result<(), NoMemory>
     requires settable { is_settable cell.now value ≡ true }
-    requires fits { fits cell.now value ≡ true }
+    requires fits { (p : Setting) → C.agrees cells.old p → IsState (C.meaning cells.old p).now → fits cell.now value ≡ true }
     ensures narrows { (p : Setting) → C.agrees cells.new p → C.agrees cells.old p }
     ensures tells_nothing { (p : Setting) → C.agrees cells.old p → C.agrees cells.new p }
     ensures ok { OnOk result ((p : Setting) → C.agrees cells.new p → C.meaning cells.new p ≡ changed Reach.Local cell.now value (saved cell.now (C.meaning cells.old p))) }
@@ -43,7 +43,7 @@ fn assign_local<C: Cells>(
     value: Value,
 ) -> Result<(), NoMemory>
     requires settable { is_settable cell.now value ≡ true }
-    requires fits { fits cell.now value ≡ true }
+    requires fits { (p : Setting) → C.agrees cells.old p → IsState (C.meaning cells.old p).now → fits cell.now value ≡ true }
     ensures narrows { (p : Setting) → C.agrees cells.new p → C.agrees cells.old p }
     ensures tells_nothing { (p : Setting) → C.agrees cells.old p → C.agrees cells.new p }
     ensures ok { OnOk result ((p : Setting) → C.agrees cells.new p → stacked groups.new (C.meaning cells.new p) ≡ assigned Reach.Local cell.now value (stacked groups.old (C.meaning cells.old p))) }
@@ -77,7 +77,7 @@ pub fn assign<C: Cells>(
     reach: Reach,
 ) -> Result<(), NoMemory>
     requires settable { is_settable cell.now value ≡ true }
-    requires fits { fits cell.now value ≡ true }
+    requires fits { (p : Setting) → C.agrees cells.old p → IsState (C.meaning cells.old p).now → fits cell.now value ≡ true }
     ensures narrows { (p : Setting) → C.agrees cells.new p → C.agrees cells.old p }
     ensures tells_nothing { (p : Setting) → C.agrees cells.old p → C.agrees cells.new p }
     ensures ok { OnOk result ((p : Setting) → C.agrees cells.new p → stacked groups.new (C.meaning cells.new p) ≡ assigned reach cell.now value (stacked groups.old (C.meaning cells.old p))) }

@@ -4,7 +4,7 @@ ghost use Rattle.std.specs.Option.{option_map};
 ghost use Rattle.lb_values.specs.declared.value.Value.{Value as Held};
 ghost use Rattle.lb_values.specs.Kept.{Kept, changed, saved, undone};
 ghost use Rattle.lb_model.specs.Ranges.{fits, is_of_state, is_settable};
-ghost use Rattle.lb_model.specs.Settings.{Setting, Notes, look, noted, noted_change, noted_save, noted_undo};
+ghost use Rattle.lb_model.specs.Settings.{IsState, Setting, Notes, look, noted, noted_change, noted_save, noted_undo};
 
 use lb_base::NoMemory;
 use lb_values::{Cell, Reach, Value};
@@ -40,10 +40,11 @@ pub trait Cells {
         ensures made { made self.new ≡ made self.old }
         ensures loan { loan self.new ≡ loan self.old };
 
-    /// Changes a cell of the state, and nothing else. A global change makes the cell's saves void.
+    /// Changes a cell of the state, and nothing else. A global change makes the cell's saves void. Where what stands is a state, so it is
+    /// behind the change.
     fn set(&mut self, cell: &Cell, value: Value, reach: Reach) -> Result<(), NoMemory>
         requires settable { is_settable cell.now value ≡ true }
-        requires fits { fits cell.now value ≡ true }
+        requires fits { (p : Setting) → agrees self.old p → IsState (meaning self.old p).now → fits cell.now value ≡ true }
         ensures narrows { (p : Setting) → agrees self.new p → agrees self.old p }
         ensures tells_nothing { (p : Setting) → agrees self.old p → agrees self.new p }
         ensures changed { OnOk result ((p : Setting) → agrees self.new p → meaning self.new p ≡ changed reach cell.now value (meaning self.old p)) }

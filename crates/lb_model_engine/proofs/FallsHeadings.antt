@@ -3,6 +3,7 @@ use Rattle.std.proofs.Common.{◌≡◌, ℕ, zero, suc, Bool, true, false, List
 use Rattle.std.specs.Prelude.{Option, Some, None, if◌then◌else◌}
 use Rattle.lb_base.specs.declared.token.Tok.{Tok}
 use Rattle.lb_model_grammar.specs.declared.given.ScanKind.TheVariants as scan_kind
+use Rattle.lb_values.specs.declared.value.PageStyle.{PageStyle}
 use Rattle.lb_model.specs.FontTable.{row as row_of}
 use Rattle.lb_model_aux.specs.declared.line.Line.{Line}
 use Rattle.lb_model_nest.specs.declared.display.Display.{Display}
@@ -10,9 +11,10 @@ use Rattle.lb_model_nest.specs.declared.display.HeadLevel.{HeadLevel}
 use Rattle.lb_model_nest.specs.Wholes.{Executed, Whole}
 use Rattle.lb_model_engine.specs.Documents.{aux_kept, class_named, document_begun, documentclass, in_preamble, includeonly, line_kept, lines_kept, options_to, repeated_told, toc_row}
 use Rattle.lb_model_engine.specs.Environments.{begin_row, begun, end_checked, end_named, end_row, over, over_at}
-use Rattle.lb_model_engine.specs.Headings.{Heading, contents_line_put, contentsline, groups_dropped, head_row, heading_at, heading_made, heading_put, heading_read, is_numbered, number_made, numbered_heading}
+use Rattle.lb_model_engine.specs.Headings.{Heading, contents_line_put, contentsline, groups_dropped, head_row, heading_at, heading_made, heading_put, heading_read, is_numbered, number_made, numbered_heading, page_style_now, styled}
 use Rattle.lb_model_engine.specs.Lists.{endlist_row, item_in, item_labelled, item_paragraph, item_row, kinds, label_to, list_begun, list_kind, list_row, list_set}
 use Rattle.lb_model_engine.specs.Reads.{number}
+use Rattle.lb_model_engine.specs.Texts.{text_rest}
 use Rattle.lb_model_engine.specs.StepsLeft.{NeverRise as Falls}
 use Rattle.lb_model_engine.proofs.FallsPages.{added-falls, and_then-falls}
 use Rattle.lb_model_engine.proofs.FallsParagraphs.{begun-falls, paragraph_ended-falls}
@@ -58,24 +60,27 @@ item-falls = reading-falls _ _ (λ label w. item_in-falls w.lists label w)
 
 -- ---- Headings
 
-heading_put-falls : (h : Heading) → Falls (heading_put h)
-heading_put-falls h w = grind arith
+heading_put-falls : (h : Heading) (s : PageStyle) → Falls (heading_put h s)
+heading_put-falls h s w = grind arith
 
-numbered-falls : (n : HeadLevel) (short title number : List Tok) → Falls (numbered_heading n short title number)
-numbered-falls n short title number w = grind arith
+numbered-falls : (n : HeadLevel) (short title : List Tok) (s : PageStyle) (toks : List Tok) → Falls (numbered_heading n short title s toks)
+numbered-falls n short title s toks w = grind arith
+
+number_text-falls : (n : HeadLevel) (short title : List Tok) (s : PageStyle) → Falls (text_rest (numbered_heading n short title s))
+number_text-falls n short title s = text_rest-falls (numbered_heading n short title s) (numbered-falls n short title s)
 
 number_made-falls : (n : HeadLevel) (short title : List Tok) → Falls (number_made n short title)
-number_made-falls n short title w = grind (arith, text_rest-falls (numbered_heading n short title) (numbered-falls n short title))
+number_made-falls n short title w = grind (arith, number_text-falls)
 
 -- with its number or without
 abbrev made_if : Bool → HeadLevel → Bool → List Tok → List Tok → Whole → Executed
 made_if b n starred short title w =
     if b then number_made n short title w
-    else heading_put (record { level = n; starred = starred; short = short; title = title; number = None }) w
+    else styled (heading_put (record { level = n; starred = starred; short = short; title = title; number = None })) w
 
 made_if-falls : (b : Bool) (n : HeadLevel) (starred : Bool) (short title : List Tok) → Falls (made_if b n starred short title)
 made_if-falls true n starred short title w = number_made-falls n short title w
-made_if-falls false n starred short title w = heading_put-falls _ w
+made_if-falls false n starred short title w = heading_put-falls _ (page_style_now w) w
 
 heading_made-falls : (n : HeadLevel) (starred : Bool) (short title : List Tok) → Falls (heading_made n starred short title)
 heading_made-falls n starred short title w = made_if-falls (is_numbered n starred w) n starred short title w

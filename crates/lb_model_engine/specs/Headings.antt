@@ -123,8 +123,11 @@ tokens_at level s h = run_in_tokens h
 abbrev pub page_style_now : Whole → PageStyle
 page_style_now w = unwrap_or (page_style_of (tells w cell.PageStyle)) style.Plain
 
-abbrev pub heading_put : Heading → Whole → Executed
-heading_put h w = looking (cell.PageStyle ∷ []) (put (tokens_at h.level (page_style_now w) h) w)
+abbrev pub styled : (PageStyle → Whole → Executed) → Whole → Executed
+styled row w = looking (cell.PageStyle ∷ []) (row (page_style_now w) w)
+
+abbrev pub heading_put : Heading → PageStyle → Whole → Executed
+heading_put h s w = put (tokens_at h.level s h) w
 
 -- it is numbered where it has no star and is not too deep, a chapter in the main matter alone
 abbrev pub is_one : ℤ → Bool
@@ -137,21 +140,21 @@ abbrev pub is_numbered : HeadLevel → Bool → Whole → Bool
 is_numbered n starred w =
     not starred && (int_le (depth_of n) (number_of (tells w (cell.Counter depth_counter))) && (not (is_chapter n) || is_one (number_of (tells w cell.Matter))))
 
--- its number is what the counter's macro expands to behind the step
-abbrev pub numbered_heading : HeadLevel → List Tok → List Tok → List Tok → Whole → Executed
-numbered_heading n short title number w =
-    and_then (label_set number w) (heading_put (record { level = n; starred = false; short = short; title = title; number = Some number }))
+-- its number is what the counter's macro expands to behind the step; the style of pages is looked at before that
+abbrev pub numbered_heading : HeadLevel → List Tok → List Tok → PageStyle → List Tok → Whole → Executed
+numbered_heading n short title s number w =
+    and_then (label_set number w) (heading_put (record { level = n; starred = false; short = short; title = title; number = Some number }) s)
 
 abbrev pub number_made : HeadLevel → List Tok → List Tok → Whole → Executed
 number_made n short title w =
     effected (step_counter (type_of n) (pos 1) true)
-    (λ done v. expanded_text (token.Word (printer_name (type_of n)) ∷ []) (numbered_heading n short title) v) w
+    (λ done v. styled (λ s u. expanded_text (token.Word (printer_name (type_of n)) ∷ []) (numbered_heading n short title s) u) v) w
 
 abbrev pub heading_made : HeadLevel → Bool → List Tok → List Tok → Whole → Executed
 heading_made n starred short title w =
     looking (cell.Counter depth_counter ∷ cell.Matter ∷ [])
     (if is_numbered n starred w then number_made n short title w
-    else heading_put (record { level = n; starred = starred; short = short; title = title; number = None }) w)
+    else styled (heading_put (record { level = n; starred = starred; short = short; title = title; number = None })) w)
 
 abbrev pub heading_read : HeadLevel → Whole → Executed
 heading_read n w =

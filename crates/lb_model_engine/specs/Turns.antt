@@ -55,7 +55,108 @@ use Rattle.lb_model_engine.specs.Words.{char}
 
 -- ---- Commands
 
--- commands that are no assignments; one that is expanded does nothing where it is not
+-- commands of lists, headings, documents and environments; another one, which is an assignment or is expanded, does nothing here
+abbrev pub document_row : Command → Whole → Executed
+document_row command.BeginList w = list_row w
+document_row command.EndList w = endlist_row w
+document_row command.Item w = item_row w
+document_row command.Head w = head_row w
+document_row command.ContentsLine w = contentsline w
+document_row command.DocumentClass w = documentclass w
+document_row command.IncludeOnly w = includeonly w
+document_row command.Toc w = toc_row w
+document_row command.Begin w = begin_row w
+document_row command.End w = end_row w
+document_row c w = on w
+
+-- commands of counters, labels and styles, and else the ones above
+abbrev pub counter_row : Command → Whole → Executed
+counter_row command.NewCounter w = newcounter w
+counter_row command.SetCounter w = setcounter w
+counter_row command.AddToCounter w = addtocounter w
+counter_row command.StepCounter w = stepcounter w
+counter_row command.RefStepCounter w = refstepcounter w
+counter_row command.Label w = label w
+counter_row command.Ref w = ref_row w
+counter_row command.PageRef w = pageref w
+counter_row command.AddContentsLine w = addcontentsline w
+counter_row command.TypeOut w = typeout w
+counter_row command.PageStyle w = pagestyle cell.PageStyle w
+counter_row command.ThisPageStyle w = pagestyle cell.ThisStyle w
+counter_row command.PageNumbering w = pagenumbering w
+counter_row command.Style w = style_row w
+counter_row command.Size w = size_row w
+counter_row command.Matter w = matter w
+counter_row command.Include w = include w
+counter_row c w = document_row c w
+
+-- commands of spaces of LaTeX, hyphens, and material, and else the ones above
+abbrev pub material_row : Command → Whole → Executed
+material_row command.IgnoreSpaces w = ignorespaces w
+material_row command.ControlSpace w = control_space w
+material_row command.ItalicCorrection w = italic_correction w
+material_row command.DiscretionaryHyphen w = discretionary_hyphen w
+material_row command.Discretionary w = discretionary w
+material_row command.VAdjust w = vadjust w
+material_row command.Insert w = footnote w
+material_row command.LineBreak w = line_break w
+material_row command.HSpace w = hspace w
+material_row command.VSpace w = vspace w
+material_row command.MarkBoth w = markboth w
+material_row command.MarkRight w = markright w
+material_row c w = counter_row c w
+
+-- commands of paragraphs, glue, kerns and penalties, and else the ones above
+abbrev pub paragraph_row : Command → Whole → Executed
+paragraph_row command.Par w = par w
+paragraph_row command.Indent w = indent w
+paragraph_row command.NoIndent w = noindent w
+paragraph_row command.LeaveVMode w = leavevmode w
+paragraph_row command.PlainNext w = plainnext w
+paragraph_row command.HSkip w = hskip w
+paragraph_row command.HFil w = horizontal_glue fil w
+paragraph_row command.HFill w = horizontal_glue fill w
+paragraph_row command.Hss w = horizontal_glue ss w
+paragraph_row command.VSkip w = vskip w
+paragraph_row command.VFil w = vertical_glue fil w
+paragraph_row command.VFill w = vertical_glue fill w
+paragraph_row command.Vss w = vertical_glue ss w
+paragraph_row command.Kern w = kern w
+paragraph_row command.Penalty w = penalty w
+paragraph_row command.UnSkip w = unskip w
+paragraph_row c w = material_row c w
+
+-- commands of changes of case, boxes and rules, and else the ones above
+abbrev pub box_row : Command → Whole → Executed
+box_row command.Uppercase w = changecase cell.Uc w
+box_row command.Lowercase w = changecase cell.Lc w
+box_row command.HBox w = box_begun Horizontal (Shifted (pos 0)) w
+box_row command.VBox w = box_begun Vertical (Shifted (pos 0)) w
+box_row command.Box w = box_taken (Shifted (pos 0)) w
+box_row command.Copy w = box_copied (Shifted (pos 0)) w
+box_row command.Raise w = raise w
+box_row command.Lower w = lower w
+box_row command.HRule w = hrule w
+box_row command.VRule w = vrule w
+box_row c w = paragraph_row c w
+
+-- commands of new names, and else the ones above
+abbrev pub naming_row : Command → Whole → Executed
+naming_row command.NewIf w = newif w
+naming_row command.NewCommand w = newcommand New w
+naming_row command.RenewCommand w = newcommand Renew w
+naming_row command.ProvideCommand w = newcommand Provide w
+naming_row command.NewEnvironment w = newenvironment New w
+naming_row command.RenewEnvironment w = newenvironment Renew w
+naming_row command.NewCount w = new_register register.Count w
+naming_row command.NewDimen w = new_register register.Dimen w
+naming_row command.NewSkip w = new_register register.Skip w
+naming_row command.NewLength w = new_register register.Skip w
+naming_row command.NewToks w = new_register register.Toks w
+naming_row command.NewSaveBox w = new_register register.Boxed w
+naming_row c w = box_row c w
+
+-- commands that are no assignments: those of groups and prefixes, and else the ones above
 abbrev pub command_row : Command → Whole → Executed
 command_row command.Relax w = on w
 command_row command.EndCsName w = stop TokenMisplaced w
@@ -65,84 +166,7 @@ command_row command.Global w = global_row w
 command_row command.BeginGroup w = begingroup w
 command_row command.EndGroup w = endgroup w
 command_row command.AfterGroup w = aftergroup w
-command_row command.NewIf w = newif w
-command_row command.NewCommand w = newcommand New w
-command_row command.RenewCommand w = newcommand Renew w
-command_row command.ProvideCommand w = newcommand Provide w
-command_row command.NewEnvironment w = newenvironment New w
-command_row command.RenewEnvironment w = newenvironment Renew w
-command_row command.NewCount w = new_register register.Count w
-command_row command.NewDimen w = new_register register.Dimen w
-command_row command.NewSkip w = new_register register.Skip w
-command_row command.NewLength w = new_register register.Skip w
-command_row command.NewToks w = new_register register.Toks w
-command_row command.NewSaveBox w = new_register register.Boxed w
-command_row command.Uppercase w = changecase cell.Uc w
-command_row command.Lowercase w = changecase cell.Lc w
-command_row command.HBox w = box_begun Horizontal (Shifted (pos 0)) w
-command_row command.VBox w = box_begun Vertical (Shifted (pos 0)) w
-command_row command.Box w = box_taken (Shifted (pos 0)) w
-command_row command.Copy w = box_copied (Shifted (pos 0)) w
-command_row command.Raise w = raise w
-command_row command.Lower w = lower w
-command_row command.HRule w = hrule w
-command_row command.VRule w = vrule w
-command_row command.Par w = par w
-command_row command.Indent w = indent w
-command_row command.NoIndent w = noindent w
-command_row command.LeaveVMode w = leavevmode w
-command_row command.PlainNext w = plainnext w
-command_row command.HSkip w = hskip w
-command_row command.HFil w = horizontal_glue fil w
-command_row command.HFill w = horizontal_glue fill w
-command_row command.Hss w = horizontal_glue ss w
-command_row command.VSkip w = vskip w
-command_row command.VFil w = vertical_glue fil w
-command_row command.VFill w = vertical_glue fill w
-command_row command.Vss w = vertical_glue ss w
-command_row command.Kern w = kern w
-command_row command.Penalty w = penalty w
-command_row command.UnSkip w = unskip w
-command_row command.IgnoreSpaces w = ignorespaces w
-command_row command.ControlSpace w = control_space w
-command_row command.ItalicCorrection w = italic_correction w
-command_row command.DiscretionaryHyphen w = discretionary_hyphen w
-command_row command.Discretionary w = discretionary w
-command_row command.VAdjust w = vadjust w
-command_row command.Insert w = footnote w
-command_row command.LineBreak w = line_break w
-command_row command.HSpace w = hspace w
-command_row command.VSpace w = vspace w
-command_row command.MarkBoth w = markboth w
-command_row command.MarkRight w = markright w
-command_row command.NewCounter w = newcounter w
-command_row command.SetCounter w = setcounter w
-command_row command.AddToCounter w = addtocounter w
-command_row command.StepCounter w = stepcounter w
-command_row command.RefStepCounter w = refstepcounter w
-command_row command.Label w = label w
-command_row command.Ref w = ref_row w
-command_row command.PageRef w = pageref w
-command_row command.AddContentsLine w = addcontentsline w
-command_row command.TypeOut w = typeout w
-command_row command.PageStyle w = pagestyle cell.PageStyle w
-command_row command.ThisPageStyle w = pagestyle cell.ThisStyle w
-command_row command.PageNumbering w = pagenumbering w
-command_row command.Style w = style_row w
-command_row command.Size w = size_row w
-command_row command.Matter w = matter w
-command_row command.Include w = include w
-command_row command.BeginList w = list_row w
-command_row command.EndList w = endlist_row w
-command_row command.Item w = item_row w
-command_row command.Head w = head_row w
-command_row command.ContentsLine w = contentsline w
-command_row command.DocumentClass w = documentclass w
-command_row command.IncludeOnly w = includeonly w
-command_row command.Toc w = toc_row w
-command_row command.Begin w = begin_row w
-command_row command.End w = end_row w
-command_row c w = on w
+command_row c w = naming_row c w
 
 -- ---- Tokens
 

@@ -3,7 +3,7 @@ ghost use Rattle.std.specs.Prelude.{◌≡◌, ℕ, Ok, length, true};
 ghost use Rattle.lb_groups.specs.Open.{innermost as innermost_of};
 ghost use Rattle.lb_model.specs.Assignments.{is_innermost, same_kind};
 ghost use Rattle.lb_model.specs.Ranges.{fits, is_settable};
-ghost use Rattle.lb_model.specs.Settings.{Setting};
+ghost use Rattle.lb_model.specs.Settings.{IsState, Setting};
 ghost use Rattle.lb_model_nest.specs.Groups.{after_around, group_closed, group_opened, kept_after, later_of};
 ghost use Rattle.lb_model_nest.specs.Wholes.{change, executed};
 ghost use Rattle.lb_nest.specs.Groups.{behind_group};
@@ -41,7 +41,7 @@ pub fn change<C: Cells>(
     reach: Reach,
 ) -> Result<Went, NoMemory>
     requires settable { is_settable cell.now value ≡ true }
-    requires fits { fits cell.now value ≡ true }
+    requires fits { (p : Setting) → C.agrees cells.old p → IsState (C.meaning cells.old p).now → fits cell.now value ≡ true }
     requires keeps { (p : Setting) → C.agrees cells.old p → Keeps p (C.meaning cells.old p) groups.old nest.now }
     ensures goes { (left : ℕ) → Goes C.Cells (change reach cell.now value) result cells.new groups.new left nest.now cells.old groups.old left nest.now }
 {

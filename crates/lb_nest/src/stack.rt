@@ -1,5 +1,5 @@
 //! What is open, one inside another.
-ghost use Rattle.std.specs.Prelude.{◌≡◌, ◌∷◌, [], MatchOption, OnOk, OnErr, length};
+ghost use Rattle.std.specs.Prelude.{◌≡◌, ◌∷◌, [], MatchOption, OnOk, OnErr, length, reverse};
 
 use lb_base::NoMemory;
 use std::alloc::Global;
@@ -39,6 +39,13 @@ impl<T> Stack<T> {
         let mut items = items;
         items.reverse();
         Stack { items }
+    }
+
+    /// The values, of which the last one is the innermost. Takes no memory.
+    pub fn as_slice(&self) -> &[T]
+        ensures { reverse result.now ≡ self.now }
+    {
+        self.items.as_slice()
     }
 
     pub fn pop(&mut self) -> Option<T>

@@ -2,6 +2,7 @@
 ghost use Rattle.std.specs.Prelude.{◌≡◌, ◌≤◌, ◌<◌, ◌+◌, ◌∷◌, ◌++◌, [], Bool, OnOk, OnErr, IfOk, IfErr, MatchOption, map, length, nat_lt, not, reverse, true, false};
 ghost use Rattle.std.specs.Option.{option_map};
 ghost use Rattle.lb_base.specs.declared.fault.Kind.TheVariants.{DepthLimit as TheDepthLimit};
+ghost use Rattle.lb_base.specs.declared.token.Tok.TheVariants.{Param};
 ghost use Rattle.lb_model.specs.declared.place.Got.TheVariants.{Fault as GotFault};
 ghost use Rattle.lb_model.specs.Configs.{asked};
 ghost use Rattle.lb_model.specs.Settings.{Setting};
@@ -19,7 +20,7 @@ use lb_base::{Kind, NoMemory, Stop, Tok, TokList};
 use lb_macros::{Arguments, Call, Rest, count_filled};
 use lb_model::{Cells, Place};
 use lb_values::{MacroDef, Shared};
-use std::alloc::Global;
+use std::alloc::{AllocError, Global};
 use std::marker::Model;
 use std::mem;
 
@@ -128,6 +129,19 @@ impl Source {
             }
             Err(_) => Err(Stop::Memory),
         }
+    }
+
+    /// Puts a boundary before the rest, past which nothing is taken until it is taken away. It has room where a million tokens are pending.
+    pub fn put_boundary(&mut self) -> Result<(), NoMemory>
+        ensures ok { OnOk result (self.new ≡ Pending (Param 0) ∷ self.old) }
+        ensures err { OnErr result (self.new ≡ self.old) }
+    {
+        let Some(count) = self.count.checked_add(1) else {
+            return Err(AllocError);
+        };
+        self.stack.push(Tok::Param(0))?;
+        self.count = count;
+        Ok(())
     }
 
     /// Puts the tokens of a list before the rest, without a copy of it, or answers false where more than a million would be pending.

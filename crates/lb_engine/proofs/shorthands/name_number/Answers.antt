@@ -22,7 +22,7 @@ change-requires g c =
     let m = c.register_meaning-meaning in
     record {
       settable = name-settable c.args.name.now m.result c.requires.name;
-      fits = name-fits c.args.name.now m.result c.requires.name (ap is_meaning m.ensures ∙ register-meaning c.args.kind c.in-Of.number);
+      fits = λ p h s. name-fits c.args.name.now m.result c.requires.name (ap is_meaning m.ensures ∙ register-meaning c.args.kind c.in-Of.number);
       holds = (c.in_ok-number.ensures.leads (λ n. executed On)).keeps;
     }
 

@@ -16,7 +16,7 @@ returns-then-numbering-eq2147483647 g c =
     record { goes = λ left. leads-nest executed (Stopped Overflow) (λ w p k o. no-next c.args.numbering.number last _) c.requires.keeps }
 
 pub change-requires-clause-fits : goal.change-requires-clause-fits
-change-requires-clause-fits g c = c.numbers_are_held.ensures.fits c.in_ok-cell.cell _ c.in-Some.value (sym c.held.ensures ∙ c.in-Some.is)
+change-requires-clause-fits g c = λ p h s. c.numbers_are_held.ensures.fits c.in_ok-cell.cell _ c.in-Some.value (sym c.held.ensures ∙ c.in-Some.is)
 
 pub returns-in-Some : goal.returns-in-Some
 returns-in-Some g c =
