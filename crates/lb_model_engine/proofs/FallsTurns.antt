@@ -1,7 +1,7 @@
 -- No turn leaves more steps than there were, and one to which the feed gives a token leaves less.
 use Rattle.std.proofs.Common.{◌≡◌, ◌≤◌, ℕ, ◌+◌, zero, suc, Bool, true, false, arith, ap, refl}
 use Rattle.std.specs.Prelude.{Option, Some, None, if◌then◌else◌}
-use Rattle.lb_base.specs.declared.fault.Kind.TheVariants.{AlignRefused, IfOpen, MathRefused, TokenMisplaced}
+use Rattle.lb_base.specs.declared.fault.Kind.TheVariants.{AlignRefused, IfOpen, MathRefused, NotYet, TokenMisplaced}
 use Rattle.lb_base.specs.declared.token.Category.{Category}
 use Rattle.lb_base.specs.declared.token.Category.TheVariants as category
 use Rattle.lb_base.specs.declared.token.Tok.{Tok}
@@ -24,7 +24,7 @@ use Rattle.lb_model_nest.specs.Words.{word_ended}
 use Rattle.lb_model_engine.specs.Environments.{is_bounded}
 use Rattle.lb_model_engine.specs.Prefixes.{command_assignment}
 use Rattle.lb_model_engine.specs.Registers.{variable_row}
-use Rattle.lb_model_engine.specs.Turns.{at_end_as, behind_word, character_row, cleared, command_row, ended, next_by, or_more, row_by, stopped_at, text_ended, text_set, token_row, turn, turns}
+use Rattle.lb_model_engine.specs.Turns.{at_end_as, behind_word, built_row, character_row, cleared, command_row, ended, is_built, next_by, or_more, row_by, stopped_at, text_ended, text_set, token_row, turn, turns}
 use Rattle.lb_model_engine.proofs.FallsBoxes.{char-falls}
 use Rattle.lb_model_engine.proofs.FallsHeadings.{over-falls}
 use Rattle.lb_model_engine.proofs.FallsNames.{variable-falls}
@@ -54,10 +54,17 @@ character_row-falls category.Subscript code w = behind_word-falls (stop MathRefu
 character_row-falls category.AlignmentTab code w = behind_word-falls (stop AlignRefused) (λ v. omega arith) w
 character_row-falls cat code w = behind_word-falls (stop TokenMisplaced) (λ v. omega arith) w
 
+built_row-falls : (c : Command) → Falls (built_row c)
+built_row-falls c w = if_falls (is_built c)
+  where
+    if_falls : (b : Bool) → (if b then command_row c w else stop NotYet w).done.next.feed.left ≤ w.feed.left
+    if_falls true = command_row-falls c w
+    if_falls false = omega arith
+
 row_by-falls : (c : Command) (row : Option (Whole → Executed)) → FallsIfAny row → Falls (row_by c row)
 row_by-falls command.Char row f w = char-falls w
 row_by-falls c (Some row) f w = behind_word-falls row f w
-row_by-falls c None f w = behind_word-falls (command_row c) (command_row-falls c) w
+row_by-falls c None f w = behind_word-falls (built_row c) (built_row-falls c) w
 
 token_row-falls : (tok : Tok) (m : Option Meaning) → Falls (token_row tok m)
 token_row-falls tok None w = behind_word-falls (stop (undefined tok)) (λ v. omega arith) w

@@ -3,7 +3,7 @@
 use Rattle.std.specs.Prelude.{◌+◌, Bool, true, false, ℕ, zero, suc, pos, List, [], ◌∷◌, Option, Some, None, if◌then◌else◌}
 use Rattle.lb_base.specs.declared.fault.Fault.{Fault}
 use Rattle.lb_base.specs.declared.fault.Kind.{Kind}
-use Rattle.lb_base.specs.declared.fault.Kind.TheVariants.{AlignRefused, GroupOpen, IfOpen, MathRefused, StepLimit, TokenMisplaced}
+use Rattle.lb_base.specs.declared.fault.Kind.TheVariants.{AlignRefused, GroupOpen, IfOpen, MathRefused, NotYet, StepLimit, TokenMisplaced}
 use Rattle.lb_base.specs.declared.token.Category.{Category}
 use Rattle.lb_base.specs.declared.token.Category.TheVariants as category
 use Rattle.lb_base.specs.declared.token.Tok.{Tok}
@@ -168,6 +168,19 @@ command_row command.EndGroup w = endgroup w
 command_row command.AfterGroup w = aftergroup w
 command_row c w = naming_row c w
 
+-- headings, contents and lists are not carried out yet
+abbrev pub is_built : Command → Bool
+is_built command.BeginList = false
+is_built command.EndList = false
+is_built command.Item = false
+is_built command.Head = false
+is_built command.ContentsLine = false
+is_built command.Toc = false
+is_built c = true
+
+abbrev pub built_row : Command → Whole → Executed
+built_row c w = if is_built c then command_row c w else stop NotYet w
+
 -- ---- Tokens
 
 -- the word before ends
@@ -191,7 +204,7 @@ character_row cat code w = behind_word (stop TokenMisplaced) w
 abbrev pub row_by : Command → Option (Whole → Executed) → Whole → Executed
 row_by command.Char assigns w = char w
 row_by c (Some row) w = behind_word row w
-row_by c None w = behind_word (command_row c) w
+row_by c None w = behind_word (built_row c) w
 
 -- a macro that is not expanded does nothing
 abbrev pub token_row : Tok → Option Meaning → Whole → Executed

@@ -18,9 +18,12 @@ use Rattle.lb_values.specs.declared.value.Value.TheVariants as value
 use Rattle.lb_values.specs.Kept.{put}
 use Rattle.lb_model.specs.declared.append.Append.{Append}
 use Rattle.lb_model.specs.declared.append.Append.TheVariants.{Log}
+use Rattle.lb_model.specs.declared.group.GroupKind.TheVariants.{Simple}
 use Rattle.lb_model.specs.declared.world.World.{World}
+use Rattle.lb_model.specs.Kinds.{no_glue}
 use Rattle.lb_model.specs.Settings.{State}
 use Rattle.lb_model.specs.StartState.{start}
+use Rattle.lb_model_paper.specs.declared.paragraph.LineRules.{LineRules}
 use Rattle.lb_model_paper.specs.Breaks.{sums_of}
 use Rattle.lb_model_paper.specs.FontFiles.{font_of}
 use Rattle.lb_model_paper.specs.Fonts.{FontData, metrics_of, named}
@@ -29,13 +32,17 @@ use Rattle.lb_model_paper.specs.TestFont.{test_font}
 use Rattle.lb_model_paper.specs.Words.{known}
 use Rattle.lb_model_journal.specs.declared.event.Event.{Event}
 use Rattle.lb_model_nest.specs.declared.nest.ListKind.TheVariants as list
+use Rattle.lb_model_nest.specs.declared.display.Display.{Display}
+use Rattle.lb_model_nest.specs.declared.display.Display.TheVariants.{Itemize, Quote}
+use Rattle.lb_model_nest.specs.declared.turn.Went.{Went}
+use Rattle.lb_model_nest.specs.declared.turn.Went.TheVariants.{Stopped}
 use Rattle.lb_model_nest.specs.Paragraphs.{bad_event, paragraph_shape, place_now}
 use Rattle.lb_model_nest.specs.Wholes.{Executed, Whole, and_then, entered, on}
 use Rattle.lb_model_nest.specs.Words.{character, word_ended}
 use Rattle.lb_model_engine.specs.Definitions.{plain_macro}
 use Rattle.lb_model_engine.specs.Kernel.{kernel_lines}
-use Rattle.lb_model_engine.specs.Lists.{toks}
-use Rattle.lb_model_engine.specs.Pieces.{Outcome, PieceText, piece_text, text_outcome}
+use Rattle.lb_model_engine.specs.Lists.{endlist_row, item_row, list_row, toks}
+use Rattle.lb_model_engine.specs.Pieces.{Outcome, PieceText, nothing_noted, piece_text, text_outcome, told_of}
 use Rattle.lb_model_engine.specs.Turns.{begun, turns}
 
 -- ---- Chapters of one line
@@ -93,7 +100,7 @@ faulty_numbers =
 abbrev pub faulty_rows : List (List ℕ × Kind)
 faulty_rows =
     (codes "\\def\\m#1.{}\\m x", kind.Runaway) ∷ (codes "\\def\\m a{}\\m b", kind.UseMismatch) ∷ (codes "\\hbox{\\vskip1pt}", kind.WrongMode)
-    ∷ (codes "\\item x", kind.ItemOutside) ∷ (codes "&", kind.AlignRefused) ∷ (codes "$x$", kind.MathRefused)
+    ∷ (codes "\\item x", kind.NotYet) ∷ (codes "&", kind.AlignRefused) ∷ (codes "$x$", kind.MathRefused)
     ∷ (codes "\\usepackage{x}", kind.PackageRefused) ∷ (codes "\\documentclass{report}", kind.ClassRefused) ∷ []
 
 -- the end of an environment is checked behind its macro, which may take nothing from there; then its group ends
@@ -101,16 +108,26 @@ abbrev pub faulty_environments : List (List ℕ × Kind)
 faulty_environments =
     (codes "\\newenvironment{w}{}{}\\begin{w}\\end{z}", kind.EnvironmentMismatch)
     ∷ (codes "\\newenvironment{w}{}{}\\end{w}", kind.EnvironmentMismatch) ∷ (codes "\\end{document}", kind.EnvironmentMismatch)
-    ∷ (codes "\\end{quote}", kind.ItemOutside) ∷ (codes "\\newenvironment{w}{}{}\\begin{w}{\\end{w}", kind.GroupExtra)
+    ∷ (codes "\\end{quote}", kind.NotYet) ∷ (codes "\\newenvironment{w}{}{}\\begin{w}{\\end{w}", kind.GroupExtra)
     ∷ (codes "\\newenvironment{w}{}{}\\begin{w}\\endgroup\\end{w}", kind.EnvironmentMismatch)
     ∷ (codes "\\def\\m#1{}\\newenvironment{w}{}{\\m}\\begin{w}\\end{w}", kind.Runaway)
     ∷ (codes "\\newenvironment{w}{}{\\iffalse}\\begin{w}\\end{w}\\fi", kind.IfOpen) ∷ (codes "\\newenvironment{w}{}{}\\begin{w}", kind.GroupOpen) ∷ []
 
--- lists inside one another, and the end of one by the name of another
+-- lists are not carried out yet
 abbrev pub faulty_lists : List (List ℕ × Kind)
-faulty_lists =
-    (codes "\\begin{itemize}\\begin{itemize}\\begin{itemize}\\begin{itemize}\\begin{itemize}", kind.TooDeep)
-    ∷ (codes "\\begin{quote}\\end{center}", kind.EnvironmentMismatch) ∷ (codes "\\begin{quote}{\\end{quote}", kind.GroupExtra) ∷ []
+faulty_lists = (codes "\\begin{itemize}", kind.NotYet) ∷ (codes "\\begin{quote}\\end{quote}", kind.NotYet) ∷ []
+
+-- what commands of lists do inside these ones, where this line comes next
+abbrev pub inside : List Display → List ℕ → Whole
+inside lists text = record (begun (text_of_line text).text (world_within 1000) state) { lists = lists }
+
+abbrev pub list_faults : List Went
+list_faults =
+    (item_row (inside [] (codes " x"))).done.went ∷ (endlist_row (inside [] [])).done.went
+    ∷ (list_row (inside (replicate 4 Itemize) (codes "0 "))).done.went ∷ (list_row (inside (replicate 6 Quote) (codes "3 "))).done.went ∷ []
+
+abbrev pub list_faults_told : List Went
+list_faults_told = Stopped kind.ItemOutside ∷ Stopped kind.ItemOutside ∷ Stopped kind.TooDeep ∷ Stopped kind.TooDeep ∷ []
 
 -- ---- Parts of the kernel text
 
@@ -222,3 +239,18 @@ line_of n = KernNode (pos 983040) Explicit ∷ replicate n (roman_character 120)
 
 abbrev pub event_of_line : ℕ → Event
 event_of_line n = bad_event (paragraph_shape paragraph) (sums_of (line_of n)) (place_now paragraph)
+
+-- ---- Limits, and what stands first and last
+
+-- a text with so many open groups
+abbrev pub grouped : ℕ → Whole
+grouped n = let w : Whole = inside [] [] in record w { feed = record w.feed { groups = replicate n Simple } }
+
+-- the cells that are looked at
+abbrev pub looked_at : Executed → List Cell
+looked_at e = told_of (e.noted (Some nothing_noted))
+
+-- lines 12pt apart, or 1pt where they would touch
+abbrev pub plain_lines : LineRules
+plain_lines =
+    record { baselineskip = record no_glue { width = pos 786432 }; lineskip = record no_glue { width = pos 65536 }; lineskiplimit = pos 0 }

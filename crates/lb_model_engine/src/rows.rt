@@ -1,6 +1,7 @@
 //! Rows that were worked out by hand.
-ghost use Rattle.std.specs.Prelude.{◌≡◌, ◌++◌, ◌∷◌, [], map, codes, length, false, true, pos, None, Some};
+ghost use Rattle.std.specs.Prelude.{◌≡◌, ◌++◌, ◌∷◌, [], map, codes, length, false, true, neg_ℤ, pos, None, Ok, Some};
 ghost use Rattle.lb_base.specs.declared.fault.Kind.TheVariants as kind;
+ghost use Rattle.lb_base.specs.declared.node.Node as node;
 ghost use Rattle.lb_base.specs.declared.token.Category.TheVariants.{AlignmentTab, BeginGroup, EndGroup, Letter, MathShift, Other, Parameter, Space};
 ghost use Rattle.lb_base.specs.declared.token.Tok.TheVariants.{Char, Param, Word};
 ghost use Rattle.lb_rows.specs.declared.command.Command.TheVariants as command;
@@ -9,11 +10,17 @@ ghost use Rattle.lb_values.specs.declared.cell.RegisterKind.TheVariants as regis
 ghost use Rattle.lb_values.specs.declared.meaning.Meaning.TheVariants as meaning;
 ghost use Rattle.lb_values.specs.declared.meaning.Register.TheVariants as register;
 ghost use Rattle.lb_values.specs.declared.reach.Reach.TheVariants.{Global, Local};
-ghost use Rattle.lb_values.specs.declared.value.PageStyle.TheVariants.{MyHeadings};
+ghost use Rattle.lb_values.specs.declared.value.PageStyle.TheVariants.{Headings, MyHeadings, Plain};
 ghost use Rattle.lb_values.specs.declared.value.Value.TheVariants as value;
+ghost use Rattle.lb_model_grammar.specs.declared.given.Quantity.TheVariants as quantity;
+ghost use Rattle.lb_model.specs.declared.arith.Arith.TheVariants.{Advance};
 ghost use Rattle.lb_model.specs.declared.append.Append.TheVariants.{Log};
 ghost use Rattle.lb_model.specs.declared.group.GroupKind.TheVariants.{Material, Semi, Simple};
+ghost use Rattle.lb_model.specs.Kinds.{no_glue};
 ghost use Rattle.lb_model.specs.Sources.Item.{Pending};
+ghost use Rattle.lb_model_paper.specs.declared.pages.HeadFoot.TheVariants.{Foot, Head};
+ghost use Rattle.lb_model_paper.specs.Breaks.{glue_node};
+ghost use Rattle.lb_model_paper.specs.Lines.{interline};
 ghost use Rattle.lb_model_journal.specs.declared.event.Event.TheVariants as event;
 ghost use Rattle.lb_model_journal.specs.LogLines.{log_line};
 ghost use Rattle.lb_model_engine.specs.declared.definition.NewKind.TheVariants.{New, Provide, Renew};
@@ -21,22 +28,24 @@ ghost use Rattle.lb_model_nest.specs.declared.display.HeadLevel.TheVariants.{Cha
 ghost use Rattle.lb_model_nest.specs.declared.turn.Went.TheVariants as went;
 ghost use Rattle.lb_model_engine.specs.Boxes.{raise};
 ghost use Rattle.lb_model_engine.specs.Definitions.{def_row, futurelet_row, let_row, plain_macro};
-ghost use Rattle.lb_model_nest.specs.Groups.{begin_group_character, begingroup, endgroup, group_closed};
+ghost use Rattle.lb_model_nest.specs.Groups.{begin_group_character, begingroup, endgroup, group_closed, group_opened};
+ghost use Rattle.lb_model_nest.specs.Pages.{head_foot, page_counted, page_counter};
 ghost use Rattle.lb_model_engine.specs.Documents.{names_between};
 ghost use Rattle.lb_model_engine.specs.Groups.{aftergroup};
 ghost use Rattle.lb_model_engine.specs.Headings.{contents, marks, numberline};
-ghost use Rattle.lb_model_nest.specs.Items.{italic_correction};
+ghost use Rattle.lb_model_nest.specs.Items.{fil, italic_correction};
 ghost use Rattle.lb_model_engine.specs.Kernel.{kernel_lines};
 ghost use Rattle.lb_model_engine.specs.Lists.{beside, endlist_row, item_row, toks};
 ghost use Rattle.lb_model_engine.specs.Material.{vadjust};
 ghost use Rattle.lb_model_engine.specs.NewNames.{new_register, newcommand, newif};
+ghost use Rattle.lb_model_engine.specs.Registers.{worked_out};
 ghost use Rattle.lb_model_engine.specs.Texts.{tokens_of_text};
 ghost use Rattle.lb_model_engine.specs.Turns.{ended, token_row};
-ghost use Rattle.lb_model_nest.specs.Paragraphs.{lines_logged, paragraph_shape};
-ghost use Rattle.lb_model_nest.specs.Wholes.{and_then, change, on, stop_at};
+ghost use Rattle.lb_model_nest.specs.Paragraphs.{finished, lines_logged, paragraph_shape};
+ghost use Rattle.lb_model_nest.specs.Wholes.{and_then, change, no_depth, on, stop_at};
 ghost use Rattle.lb_model_engine.specs.Worked.{control, digest, held, size_of_lines, tokens, went_of, whole};
 ghost use Rattle.lb_model_nest.specs.Words.{factor_behind};
-ghost use Rattle.lb_model_engine.specs.WorkedChapters.{fault_of_part, first_parts, last_parts, middle_parts, no_faults, fault_of, fault_told, faulty_environments, faulty_lists, faulty_names, faulty_numbers, faulty_rows, held_behind, held_told, event_of_line, roman_character, set, set_within, typed_behind, typed_told, word_of, worked_environments, worked_registers, worked_texts};
+ghost use Rattle.lb_model_engine.specs.WorkedChapters.{fault_of_part, first_parts, last_parts, middle_parts, no_faults, fault_of, fault_told, faulty_environments, faulty_lists, faulty_names, faulty_numbers, faulty_rows, grouped, looked_at, list_faults, list_faults_told, held_behind, held_told, event_of_line, plain_lines, roman_character, set, set_within, typed_behind, typed_told, word_of, worked_environments, worked_registers, worked_texts};
 
 /// Groups: those that do not match, what is local and what is global, and the tokens that come behind.
 #[tactic(auto, unfolding(lb_model_nest::specs::Groups::begingroup, lb_model_nest::specs::Groups::endgroup, lb_model_nest::specs::Groups::begin_group_character, lb_model_nest::specs::Groups::group_opened, lb_model_nest::specs::Groups::group_closed, lb_model_nest::specs::Groups::kept_after, crate::specs::Groups::aftergroup, lb_values::specs::Cells::cell_eq))]
@@ -166,7 +175,8 @@ pub fn chapters_that_stop()
     ensures rows { map fault_of faulty_rows ≡ map fault_told faulty_rows }
     ensures environments { map fault_of faulty_environments ≡ map fault_told faulty_environments }
     ensures lists { map fault_of faulty_lists ≡ map fault_told faulty_lists }
-    ensures ended { (set (codes "\\begin{quote}\\end{quote}")).fault ≡ None }
+    ensures inside { list_faults ≡ list_faults_told }
+    ensures ended { (set (codes "\\newenvironment{w}{}{}\\begin{w}\\end{w}")).fault ≡ None }
 {}
 
 /// The kernel text in parts: none of them ends in a fault.
@@ -198,4 +208,25 @@ pub fn words()
 pub fn bad_lines()
     ensures overfull { event_of_line 70 ≡ event.Overfull (pos 1310720) (codes "a.tex") 1 }
     ensures underfull { event_of_line 66 ≡ event.Underfull (codes "a.tex") 1 }
+{}
+
+/// Ten thousand groups may be open, and no more.
+#[tactic(auto, unfolding(lb_model_nest::specs::Groups::group_opened))]
+pub fn limits()
+    ensures room { went_of (group_opened Simple (grouped 9999)) ≡ went.On }
+    ensures no_room { went_of (group_opened Simple (grouped 10000)) ≡ went.Stopped kind.DepthLimit }
+{}
+
+/// What stands at the end of a paragraph, and before a first box and another one; the number of the next page, and where pages of a style
+/// show it; and arithmetic, which looks at what it changes.
+#[tactic(auto, unfolding(lb_model_paper::specs::Lines::interline))]
+pub fn ends_and_beginnings()
+    ensures paragraph { finished fil [] ≡ node.Penalty (pos 10000) ∷ node.Glue fil ∷ node.Penalty (neg_ℤ (pos 10000)) ∷ [] }
+    ensures first { interline plain_lines no_depth (pos 327680) ≡ Ok [] }
+    ensures next { interline plain_lines (pos 131072) (pos 327680) ≡ Ok (glue_node (record no_glue { width = pos 327680 }) ∷ []) }
+    ensures page { held (page_counted (whole [])) page_counter ≡ value.Number (pos 2) }
+    ensures plain { head_foot Plain ≡ Foot }
+    ensures headings { head_foot Headings ≡ Head }
+    ensures arithmetic { looked_at (worked_out Advance Local (cell.Count 1) (quantity.Number (pos 1)) (whole [])) ≡ cell.Count 1 ∷ [] }
+    ensures assignment { looked_at (change Local (cell.Count 1) (value.Number (pos 1)) (whole [])) ≡ [] }
 {}

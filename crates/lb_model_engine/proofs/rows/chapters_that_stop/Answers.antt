@@ -59,3 +59,7 @@ returns-clause-lists c = refl
 pub returns-clause-ended : goal.returns-clause-ended
 unfolding space trimmed turns turn next next_from step taken next_token character characters start start_category command_rows command_name parameter_rows parameter_name cell_eq word_ended group_opened group_closed begin_group_character end_group_character end_group begingroup endgroup begin_row end_row over newenvironment tokens_of_text picked_row variable_row arithmetic_row past_spaces_or held_of list_row endlist_row paragraph_ended added page_added pages_shipped page_cleared next_part page_end search_end cost_at penalty_at is_discardable are_small_on_page on_page is_block all_parts is_foot foot_size along size_of space_of stretch_of shrink_of glue_value start_parameter out-Node roll-Node denote.Hole.Carrier.out
 returns-clause-ended c = refl
+
+pub returns-clause-inside : goal.returns-clause-inside
+unfolding space trimmed turns turn next next_from step taken next_token character characters start start_category command_rows command_name parameter_rows parameter_name cell_eq word_ended past_spaces_or held_of item_row list_row endlist_row paragraph_ended
+returns-clause-inside c = refl
