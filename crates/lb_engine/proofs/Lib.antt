@@ -1,4 +1,6 @@
 pub mod AssignLemmas
+pub mod BracketLemmas
+pub mod CopyLemmas
 pub mod EffectLemmas
 pub mod JoinLemmas
 pub mod JournalLemmas

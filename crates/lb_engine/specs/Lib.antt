@@ -1,3 +1,5 @@
+pub mod Brackets
+pub mod CopiedMeanings
 pub mod Effects
 pub mod ExpandedTexts
 pub mod Leads

@@ -26,7 +26,7 @@ use lb_values::Cell;
 use std::alloc::AllocError;
 
 // How a row goes on by what was read.
-fn settled<T>(read: Result<T, Stop>) -> Result<Reading<T>, NoMemory>
+pub(crate) fn settled<T>(read: Result<T, Stop>) -> Result<Reading<T>, NoMemory>
     ensures { IfOk result (λ going. settled read ≡ Some going) }
 {
     match read {
@@ -56,7 +56,7 @@ pub fn token<C: Cells>(cells: &mut C, engine: &mut Engine) -> Result<Reading<Tok
 }
 
 // The cell of the meaning of a control sequence or an active character.
-fn control_of(tok: Tok) -> Reading<Cell>
+pub(crate) fn control_of(tok: Tok) -> Reading<Cell>
     ensures control { (row : ACell → Whole → Executed) (w : Whole) → control_to tok row w ≡ behind_reading row result w }
     ensures name { IsName result }
 {
