@@ -1,3 +1,4 @@
+pub mod ArithmeticLemmas
 pub mod AssignLemmas
 pub mod BracketLemmas
 pub mod CopyLemmas

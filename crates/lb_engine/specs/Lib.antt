@@ -1,3 +1,4 @@
+pub mod Arithmetic
 pub mod Brackets
 pub mod CopiedMeanings
 pub mod Effects

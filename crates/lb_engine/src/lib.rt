@@ -1,6 +1,7 @@
 //! The engine: what every command does, over a feeder of tokens and the semantic nest (TeXbook, chapters 24 to 26; tex.web, parts 46 to 49).
 #![tactic(auto)]
 
+mod arithmetic;
 mod brackets;
 mod changes;
 mod copied_meanings;
