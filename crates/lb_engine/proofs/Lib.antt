@@ -8,10 +8,12 @@ pub mod JournalLemmas
 pub mod LeadsLemmas
 pub mod LetSourceLemmas
 pub mod LookLemmas
+pub mod MacroLemmas
 pub mod ModesOfCommands
 pub mod ModesOfReadings
 pub mod ModesOfSteps
 pub mod NestLemmas
+pub mod NewMacroLemmas
 pub mod ParameterLemmas
 pub mod ReadingLemmas
 pub mod RowLemmas

@@ -5,7 +5,9 @@ pub mod Effects
 pub mod ExpandedTexts
 pub mod Leads
 pub mod Looks
+pub mod Macros
 pub mod Names
+pub mod NewMacros
 pub mod Parameters
 pub mod Reads
 pub mod Registers

@@ -2,10 +2,12 @@
 #![tactic(auto)]
 
 mod arithmetic;
+mod bodies;
 mod brackets;
 mod changes;
 mod copied_meanings;
 mod counters;
+mod definitions;
 mod effects;
 mod engine;
 mod expanded_texts;
@@ -15,9 +17,13 @@ mod journal;
 mod labels;
 mod let_sources;
 mod logs;
+mod macros;
 mod material;
 mod named;
+mod new_commands;
 mod new_conditionals;
+mod new_environments;
+mod new_macros;
 mod new_registers;
 mod paragraphs;
 mod parameters;
