@@ -28,7 +28,7 @@ use Rattle.lb_model.specs.Expandables.{expandable as row_of}
 use Rattle.lb_model.specs.Quantities.{Internal, internal_in}
 use Rattle.lb_model.specs.Quantities.Internal.{Known, Picked, Tokens}
 use Rattle.lb_model_paper.specs.FoundFonts.{FontFound}
-use Rattle.lb_model_expansion.specs.Expansion.{asked_of, at_end, body_asked, expanded, font_size, got_met, handed, handed_to, holding, internal_given, internal_to, macro_expanded, met_as, most_turns, next, next_from, opened, opened_uncounted, present_font, quantity_asked, quantity_met, ran, resume, resumed, row_met, scan_as, scan_asked, scan_closed, scan_quantity, scan_token, step, word_asked, word_met, word_opened}
+use Rattle.lb_model_expansion.specs.Expansion.{asked_of, at_end, body_asked, expanded, font_size, got_met, handed, handed_to, holding, if_room, internal_given, internal_to, macro_expanded, met_as, most_turns, next, next_from, opened, opened_uncounted, present_font, quantity_asked, quantity_met, ran, resume, resumed, row_met, scan_as, scan_asked, scan_closed, scan_quantity, scan_token, step, word_asked, word_behind, word_met, word_opened}
 use Rattle.lb_model_expansion.specs.Steps.{Performed, and_then, ends_pass}
 use Rattle.lb_engine.proofs.ModesOfCommands.{Within, and_then-stays, counter_printed-stays, decided-stays, part_met-stays, test_opened-stays, word_opened-stays}
 use Rattle.lb_engine.proofs.ModesOfReadings.{arguments-stays, taken-stays, taken_by-stays}
@@ -163,3 +163,9 @@ word_asked-stays c = then-ran c.mode (word_opened Asked c) (word_opened-stays c.
 
 pub body_asked-stays : KeepsMode body_asked
 body_asked-stays c = then-ran c.mode (opened_uncounted reading.Body c) refl
+
+word_behind-stays : (n : Mode) (toks : List Tok) (purpose : Purpose) (c : Config) → c.mode ≡ n → Within n (if_room (word_behind toks purpose) c)
+word_behind-stays n toks purpose c h = grind arith
+
+pub word_of-stays : (toks : List Tok) → KeepsMode (λ c. and_then (if_room (word_behind toks Asked) c) ran)
+word_of-stays toks c = then-ran c.mode (if_room (word_behind toks Asked) c) (word_behind-stays c.mode toks Asked c refl)

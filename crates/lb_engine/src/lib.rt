@@ -37,6 +37,7 @@ mod shorthands;
 mod spaces;
 mod stars;
 mod styles;
+mod texts;
 mod unexpanded;
 mod variables;
 
