@@ -3,12 +3,14 @@ pub mod AssignLemmas
 pub mod BracketLemmas
 pub mod CopyLemmas
 pub mod EffectLemmas
+pub mod EndLemmas
 pub mod JoinLemmas
 pub mod JournalLemmas
 pub mod LeadsLemmas
 pub mod LetSourceLemmas
 pub mod LookLemmas
 pub mod MacroLemmas
+pub mod LooksLemmas
 pub mod ModesOfCommands
 pub mod ModesOfReadings
 pub mod ModesOfSteps

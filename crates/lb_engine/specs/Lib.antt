@@ -2,6 +2,7 @@ pub mod Arithmetic
 pub mod Brackets
 pub mod CopiedMeanings
 pub mod Effects
+pub mod Ends
 pub mod ExpandedTexts
 pub mod Leads
 pub mod Looks

@@ -10,6 +10,7 @@ mod counters;
 mod definitions;
 mod effects;
 mod engine;
+mod environment_ends;
 mod expanded_texts;
 mod groups;
 mod items;
