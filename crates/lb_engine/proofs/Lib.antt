@@ -11,6 +11,7 @@ pub mod LetSourceLemmas
 pub mod LookLemmas
 pub mod MacroLemmas
 pub mod LooksLemmas
+pub mod ModeLemmas
 pub mod ModesOfCommands
 pub mod ModesOfReadings
 pub mod ModesOfSteps
@@ -19,6 +20,7 @@ pub mod NewMacroLemmas
 pub mod ParameterLemmas
 pub mod ReadingLemmas
 pub mod RowLemmas
+pub mod RuleLemmas
 pub mod SkipLemmas
 pub mod SpaceLemmas
 pub mod TextLemmas

@@ -1,5 +1,5 @@
 -- Cells that are looked at, and memory that is wanted behind what was read.
-use Rattle.std.proofs.Common.{◌≡◌, ◌∙◌, ◌∷◌, [], List, ap, subst, sym}
+use Rattle.std.proofs.Common.{◌≡◌, ◌∙◌, ◌∷◌, [], List, ap, refl, subst, sym}
 use Rattle.std.specs.Prelude.{IfOk, Result, Ok, Err}
 use Rattle.std.specs.Result.{IsErr}
 use Rattle.std.specs.Option.{option_map}
@@ -59,3 +59,9 @@ pub told-drops : {S E F X Y : Type 0} {C : Ghosts S} {groups : List Group} {cell
     → IsErr result → TellsIn C groups cell f read new old → Leads C act rest result new e old e
 told-drops (Ok y) is t = cc
 told-drops (Err f) is t = record { narrows = t.narrows; passes = tt; keeps = tt; made = t.made; loan = t.loan }
+
+-- what a cell tells is what a row goes on with
+pub look-leads : {S E X : Type 0} (C : Ghosts S) (cell : Cell) (f : Value → X) (row : X → Whole → Executed) (result : Result X E) {new old : S} {e : Engine}
+    → Holds C old e → TellsIn C e.desk.groups cell f result new old → Leads C (λ w. looking (cell ∷ []) (row (f (tells w cell)) w)) row result new e old e
+look-leads {S} {E} {X} C cell f row (Ok v) holds t = told-leads C cell f row row v v holds t refl
+look-leads {S} {E} {X} C cell f row (Err x) holds t = told-drops {Y = X} (Err x) refl t

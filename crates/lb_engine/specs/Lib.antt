@@ -1,6 +1,8 @@
 pub mod Arithmetic
 pub mod Brackets
 pub mod CopiedMeanings
+pub mod BoxSizes
+pub mod Boxes
 pub mod Effects
 pub mod Ends
 pub mod ExpandedTexts
@@ -12,5 +14,7 @@ pub mod NewMacros
 pub mod Parameters
 pub mod Reads
 pub mod Registers
+pub mod RuleSizes
+pub mod Rules
 pub mod Unexpanded
 pub mod Views

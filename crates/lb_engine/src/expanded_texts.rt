@@ -60,8 +60,12 @@ pub fn text_rest<C: Cells>(cells: &mut C, engine: &mut Engine) -> Result<Reading
     Err(AllocError)
 }
 
-// Tokens come next, with a brace behind them.
-fn put_closed<C: Cells>(cells: &C, engine: &mut Engine, toks: TokList) -> Result<Went, NoMemory>
+/// Tokens come next, with a brace behind them.
+pub(crate) fn put_closed<C: Cells>(
+    cells: &C,
+    engine: &mut Engine,
+    toks: TokList,
+) -> Result<Went, NoMemory>
     requires holds { Holds C.Cells cells.now engine.old }
     ensures goes { Goes C.Cells (put_closed toks) result cells.now engine.new cells.now engine.old }
 {

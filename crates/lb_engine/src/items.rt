@@ -42,8 +42,8 @@ pub fn penalty<C: Cells>(cells: &mut C, engine: &mut Engine) -> Result<Went, NoM
     }
 }
 
-// Adds the glue that comes.
-fn read_glue<C: Cells>(cells: &mut C, engine: &mut Engine) -> Result<Went, NoMemory>
+/// Adds the glue that comes.
+pub(crate) fn read_glue<C: Cells>(cells: &mut C, engine: &mut Engine) -> Result<Went, NoMemory>
     requires holds { Holds C.Cells cells.old engine.old }
     ensures goes { Goes C.Cells (glue_read glue_added) result cells.new engine.new cells.old engine.old }
 {

@@ -1,0 +1,12 @@
+use Rattle.lb_engine.proofs.LeadsLemmas.{leads-ended, leads-then}
+use Rattle.lb_model_engine.specs.Reads.{put_closed}
+use Rattle.lb_model_nest.specs.Boxes.{mark_opened}
+use Rattle.lb_model_nest.specs.Wholes.{and_then}
+use Rattle.std.proofs.Common.{false}
+use Rattle.lb_engine.proofs.materials.begin_both.Goals as goal
+
+pub returns-in-On : goal.returns-in-On
+returns-in-On g c = record { goes = leads-then (λ w. and_then (put_closed c.args.right w) (put_closed c.args.left)) (mark_opened false) c.open_mark.result c.in-On.is c.in_ok-went.ensures.goes c.open_mark.ensures.goes }
+
+pub returns-in_default : goal.returns-in_default
+returns-in_default g c = record { goes = leads-ended (λ w. and_then (put_closed c.args.right w) (put_closed c.args.left)) (mark_opened false) c.in_ok-went.went c.in_default.not-On c.in_ok-went.ensures.goes }
