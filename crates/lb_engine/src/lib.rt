@@ -3,12 +3,12 @@
 
 mod arithmetic;
 mod bodies;
-mod brackets;
 mod box_places;
 mod box_registers;
 mod box_sizes;
 mod box_targets;
 mod boxes;
+mod brackets;
 mod changes;
 mod copied_meanings;
 mod counters;
