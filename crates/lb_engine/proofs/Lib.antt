@@ -9,8 +9,8 @@ pub mod JournalLemmas
 pub mod LeadsLemmas
 pub mod LetSourceLemmas
 pub mod LookLemmas
-pub mod MacroLemmas
 pub mod LooksLemmas
+pub mod MacroLemmas
 pub mod ModeLemmas
 pub mod ModesOfCommands
 pub mod ModesOfReadings
@@ -21,6 +21,7 @@ pub mod ParameterLemmas
 pub mod ReadingLemmas
 pub mod RowLemmas
 pub mod RuleLemmas
+pub mod SegmentLemmas
 pub mod SkipLemmas
 pub mod SpaceLemmas
 pub mod TextLemmas

@@ -1,8 +1,8 @@
 pub mod Arithmetic
-pub mod Brackets
-pub mod CopiedMeanings
 pub mod BoxSizes
 pub mod Boxes
+pub mod Brackets
+pub mod CopiedMeanings
 pub mod Effects
 pub mod Ends
 pub mod ExpandedTexts
@@ -16,5 +16,6 @@ pub mod Reads
 pub mod Registers
 pub mod RuleSizes
 pub mod Rules
+pub mod Segments
 pub mod Unexpanded
 pub mod Views

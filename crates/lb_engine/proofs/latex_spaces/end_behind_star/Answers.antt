@@ -1,0 +1,26 @@
+use Rattle.lb_base.specs.declared.token.Tok.{Tok}
+use Rattle.lb_engine.proofs.RowLemmas.{read-ends, read-fails, read-then}
+use Rattle.lb_engine.proofs.latex_spaces.end_behind_star.Goals as goal
+use Rattle.lb_engine.specs.Reads.{behind_reading}
+use Rattle.lb_model_engine.specs.Items.{skip_to}
+use Rattle.lb_model_nest.specs.Items.{line_ended}
+use Rattle.lb_model_nest.specs.Wholes.{Executed, Whole, executed}
+use Rattle.lb_model_nest.specs.declared.turn.Went.TheVariants.{On}
+use Rattle.std.proofs.Common.{refl}
+use Rattle.std.specs.Prelude.{Bool, List, Option}
+
+-- what is done with it
+abbrev to : Bool → Option (List Tok) → Whole → Executed
+to starred toks u = skip_to toks (line_ended starred) u
+
+pub end_by-requires : goal.end_by-requires
+end_by-requires g c = record { holds = (c.in_ok-skip.ensures.leads (λ x. executed On)).keeps }
+
+pub returns-in-Of : goal.returns-in-Of
+returns-in-Of g c = record { goes = read-then (behind_reading (to c.args.starred)) c.end_by.result c.in-Of.is (c.in_ok-skip.ensures.leads (to c.args.starred)) c.end_by.ensures.goes }
+
+pub returns-in-Stops : goal.returns-in-Stops
+returns-in-Stops g c = record { goes = read-ends (behind_reading (to c.args.starred)) executed c.in-Stops.went c.in-Stops.is refl (c.in_ok-skip.ensures.leads (to c.args.starred)) }
+
+pub returns-in_err-skip : goal.returns-in_err-skip
+returns-in_err-skip g c = record { goes = read-fails c.from_residual.result c.from_residual.ensures.0 (c.in_err-skip.ensures.leads (to c.args.starred)) }
